@@ -1,5 +1,5 @@
--- A text of a formula has a token `0` for each clause, and a prefix of a printed text has fewer of
--- these tokens than its header says.
+-- A text of a formula has a token `0` for each clause. A prefix of a printed text has fewer tokens
+-- `0` than the number of clauses in its header.
 use Rattle.std.proofs.Common.{◌≡◌, ◌≢◌, ◌≤◌, ◌<◌, ◌+◌, ◌-◌, ◌^◌, ◌++◌, ◌⊎◌, ℕ, zero, suc, ℤ, pos, negsuc, List, [], ◌∷◌, length}
 use Rattle.std.proofs.Common.{length-append, map, min, get_or, true, false, not, cond, refl, sym, ap, subst, ◌∙◌, inl, inr, arith}
 use Rattle.std.specs.Prelude.{codes, flat_map, ◌==◌, filter}
@@ -262,7 +262,8 @@ module _ (vars : ℕ) (few : vars ≤ max_variable) where
     | inr within ↦ omega (arith, note_part e.id place front within.between within.front_is within.some)
   ]
 
-  -- a text of clauses that lacks more than its last byte has fewer zeros than there are clauses
+  -- if more than the last byte of a text of n clauses is missing, the rest has fewer than n tokens
+  -- `0`
   entries_part : (place : ℕ) (es : List Entry) (front back : List ℕ) → AllByRecursion (AllByRecursion (IsLiteral vars)) (clauses_of es)
       → entries_text place es ≡ front ++ back → 1 < length back → line_zeros front < length es
   unfolding line_zeros zeros
@@ -294,7 +295,7 @@ run_p = record { some = omega arith; separators = (refl, tt) }
 run_cnf : IsRun (codes "cnf")
 run_cnf = record { some = omega arith; separators = (refl, (refl, (refl, tt))) }
 
--- a line of more than one token continues after the first
+-- if a line that is cut still has more than one token, the cut is after the first token's space
 goes_on : (t more front back one : List ℕ) (tokens : List (List ℕ)) → IsRun t → t ++ 32 ∷ more ≡ front ++ back → runs front ≡ one ∷ tokens
     → 0 < length tokens → (later : List ℕ) × (runs later ≡ tokens) × (more ≡ later ++ back)
 goes_on t more front back one tokens run is found some = elim (token_cut t more front back is) [
@@ -313,8 +314,8 @@ zero_alone zero back fits is = (refl, cc (decimal_digit 0 (omega arith)))
 zero_alone (suc n) back fits is = absurd (omega (arith, first_decimal (suc n) (omega arith) fits, ap (λ (t : List ℕ). get_or t 0 0) is))
 
 module _ (vars count : ℕ) (few_vars : vars < 2 ^ 64) (few : count < 2 ^ 64) where
-  -- if a header that is cut is read as a header, no other line has tokens, and its count is 0 only
-  -- if it was 0 before the cut and only the LF is missing
+  -- if a header that is cut is still read as a header, no other line has tokens, and the count is 0
+  -- only if it was 0 before the cut and only the LF is missing
   header_part : (front back : List ℕ) → header_line vars count ≡ front ++ back → 0 < length back
       → (v n : ℕ) (lines : List (List (List ℕ))) → token_lines front ≡ (codes "p" ∷ codes "cnf" ∷ decimal v ∷ decimal n ∷ []) ∷ lines
       → (lines ≡ []) × (n ≡ 0 → (count ≡ 0) × (length back ≡ 1))

@@ -1,4 +1,4 @@
--- Chains of files: each run reads what the one before it wrote.
+-- Chains of files: each run reads the file that the previous run wrote.
 use Rattle.std.proofs.Common.{[], ◌∷◌, subst}
 use Rattle.std.specs.Prelude.{◌≡◌, ℕ, List}
 use Rattle.lrup_model.specs.Cube.{IsUnsatisfiableUnder}
@@ -8,7 +8,7 @@ use Rattle.checkpoint.specs.Checkpoints.{FilesRefute, FilesRefuteUnder}
 use Rattle.checkpoint.proofs.EntailsLemmas.{refutes_back, refutes_back_under}
 use Rattle.dimacs.specs.FormulaText.{IsFormulaText}
 
--- a text has one formula
+-- two formulas with the same text are equal
 abbrev pub OneFormula : Type 0
 OneFormula = (bytes : List ℕ) (one other : Cnf) → IsFormulaText bytes one
     → IsFormulaText bytes other → one ≡ other

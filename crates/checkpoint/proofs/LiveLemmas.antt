@@ -1,4 +1,4 @@
--- What has been fetched so far, one identity after the other.
+-- Lemmas about the clauses fetched so far, one identity after the other.
 use Rattle.std.proofs.Common.{◌≡◌, ℕ, Bool, true, false, cond, ◌+◌, ◌-◌, ◌≤◌, List, [], ◌∷◌, ◌++◌, map, length, length-append, take, refl}
 use Rattle.std.proofs.Common.{sym, ap, subst, ◌∙◌, ◌⊎◌, inl, inr, arith}
 use Rattle.std.specs.List.{AllByRecursion}
@@ -25,7 +25,7 @@ fetches-push s id (q ∷ replies) r =
     let same : id + 1 + length replies ≡ id + length (q ∷ replies) = omega arith in
     ap (λ es. fetch s id q ∷ es) (fetches-push s (id + 1) replies r ∙ ap (λ n. fetches s (id + 1) replies ++ fetch s n r ∷ []) same)
 
--- putting an element in front, or not, and appending a list can be done in either order
+-- prepending an element under a condition and appending a list can be done in either order
 cond-append : (b : Bool) (e : Entry) (xs ys : List Entry) → cond b (e ∷ (xs ++ ys)) (xs ++ ys) ≡ cond b (e ∷ xs) xs ++ ys
 cond-append true e xs ys = refl
 cond-append false e xs ys = refl
@@ -65,7 +65,7 @@ all_follow : (p : CallerView) (clips : List ClipValue) → AllFollow p → AllBy
 all_follow p [] follow known = tt
 all_follow p (clip ∷ clips) follow known = (known_follows p clip follow known.0, all_follow p clips follow known.1)
 
--- the formula's clauses are live, as far as they have been fetched
+-- those of the formula's clauses that have been fetched are live
 pub record First (f : Cnf) (count : ℕ) (last : ℕ) (replies : List Reply) : Type 0 where
   pub more : List Reply
   pub is : replies ≡ map live (take last f.clauses) ++ more
@@ -100,7 +100,7 @@ first_next f count last replies r all answer first =
           }
     ]
 
--- in the end, the wanted clauses begin with all wanted ones of the formula
+-- in the end, the live clauses that are wanted begin with all wanted clauses of the formula
 pub first_whole : (wants : ℕ → Bool) (f : Cnf) (count last : ℕ) (replies : List Reply) → count ≡ length f.clauses → count ≤ last
     → First f count last replies → (more : List Entry) × (wanted_of wants 1 replies ≡ wanted_clauses wants f.clauses ++ more)
 first_whole wants f count last replies all within first = (
@@ -180,13 +180,13 @@ pub kept_unwanted : (wants : ℕ → Bool) (p : CallerView) (id : ℕ) (clip : C
     → wanted_of wants id (live (clip_clause p clip) ∷ []) ≡ []
 kept_unwanted wants p id clip unwanted = rw unwanted refl
 
--- nothing is kept if nothing is live
+-- nothing is kept for an identity without a live clause
 pub kept_none : (wants : ℕ → Bool) (p : CallerView) (id : ℕ) (r : Fetched) → (r ≡ fetched.Vacant) ⊎ (r ≡ fetched.Retired)
     → wanted_of wants id (reply_of p r ∷ []) ≡ []
 kept_none wants p id r (inl vacant_is) = rw vacant_is refl
 kept_none wants p id r (inr retired_is) = rw retired_is refl
 
--- an error satisfies every `IfOk`; for the exit of a `?`
+-- an error satisfies every `IfOk` (used where a `?` returns the error)
 pub no_ok : {T E : Type 0} (r : Result T E) (P : T → Type 0) → IsErr r → IfOk r P
 no_ok (Ok x) P h = cc
 no_ok (Err e) P h = tt

@@ -11,14 +11,15 @@ use Rattle.checkpoint.specs.Live.{Entry, clauses_of, entries_of, entry_of}
 use Rattle.checkpoint.specs.Printing.{printed}
 
 module _ (p : CallerView) (vars : ℕ) where
-  -- the clause of the clip at this index is a clause of a formula
+  -- a formula over these variables may have the clause of the clip at this index
   pub clause_at_clip : (clips : List ClipValue) (k : ℕ) (d : ClipValue) → k < length clips
       → AllByRecursion (IsFormulaClause vars) (clauses_of (entries_of p clips)) → IsFormulaClause vars (clip_clause p (get_or clips k d))
   clause_at_clip [] k d within all = absurd (omega (arith, within))
   clause_at_clip (c ∷ clips) zero d within all = all.0
   clause_at_clip (c ∷ clips) (suc k) d within all = clause_at_clip clips k d (omega (arith, within)) all.1
 
-  -- the formula of the first clips, with the clause of the next one, is that of one more clip
+  -- the formula of the first k clips, with the clause of the next clip appended, is the formula of
+  -- the first k + 1
   pub printed_next : (clips : List ClipValue) (k : ℕ) (d : ClipValue) (f g : Cnf) → k < length clips
       → f ≡ printed vars (entries_of p (take k clips))
       → g ≡ record f { clauses = f.clauses ++ clip_clause p (get_or clips k d) ∷ [] }
@@ -31,7 +32,7 @@ module _ (p : CallerView) (vars : ℕ) where
       next ∙ ap (λ (h : Cnf). record h { clauses = h.clauses ++ clip_clause p (get_or clips k d) ∷ [] }) before
       ∙ ap (λ (cs : List Clause). record { vars = vars; clauses = cs }) (sym more)
 
--- derived clauses that are short enough are clauses of a formula
+-- a formula over these variables may have derived clauses that are short enough
 pub derived_clauses : (f : Cnf) (vars : ℕ) (cs : List Clause) → vars ≡ f.vars → AllByRecursion (IsDerived f) cs
     → AllByRecursion (λ c. length c ≤ max_clause_literals) cs → AllByRecursion (IsFormulaClause vars) cs
 derived_clauses f vars [] same derived short = tt

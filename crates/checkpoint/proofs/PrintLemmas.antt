@@ -67,7 +67,7 @@ module _ (c : Clause) (i : ℕ) (first : ℤ) (at : slice_get c (2 * i) ≡ Some
       ] in
       ap literals_text (take_all (2 * (i + 1)) c (omega (arith, short)) ∙ sym (take_all (2 * i + 1) c short)) ∙ pair_first
 
--- a clause's note: none if the identity is the place, otherwise a line
+-- a clause's note: empty if the identity is the clause's number, otherwise a line
 pub note_none : (id place : ℕ) → id ≡ place → note id place ≡ []
 unfolding note
 note_none id place same = rw (eq-eqb id place same) refl
@@ -76,7 +76,7 @@ pub note_some : (id place : ℕ) → id ≢ place → note id place ≡ codes "c
 unfolding note
 note_some id place other = rw (ne_eqb id place other) refl
 
--- the text of an appended list is the texts of both, one after the other
+-- the text of two appended lists is the text of the first, then the text of the second
 entries_text-append : (place : ℕ) (xs ys : List Entry)
     → entries_text place (xs ++ ys) ≡ entries_text place xs ++ entries_text (place + length xs) ys
 entries_text-append place [] ys = let same : place ≡ place + 0 = omega arith in ap (λ n. entries_text n ys) same
@@ -86,11 +86,11 @@ entries_text-append place (x ∷ xs) ys =
     (entries_text-append (place + 1) xs ys ∙ ap (λ n. entries_text (place + 1) xs ++ entries_text n ys) same)
     ∙ sym (append_assoc (entry_text place x) (entries_text (place + 1) xs) (entries_text (place + length (x ∷ xs)) ys))
 
--- the header and the texts of the first clauses
+-- the header and the texts of the first k clauses
 abbrev pub header_entries : ℕ → (ClipValue → Entry) → List ClipValue → ℕ → List ℕ
 header_entries vars entry clips k = header_line vars (length clips) ++ entries_text 1 (map entry (take k clips))
 
--- the texts of the clauses from this one on
+-- the texts of the clauses after the first k
 abbrev pub later_entries : (ClipValue → Entry) → List ClipValue → ℕ → List ℕ
 later_entries entry clips k = entries_text (1 + k) (map entry (drop k clips))
 

@@ -1,4 +1,4 @@
--- The printed text of a formula is a text of it: its lines, its tokens, its clauses.
+-- The text that is printed for a formula is a text of that formula.
 use Rattle.std.proofs.Common.{◌≡◌, ◌≤◌, ◌<◌, ◌+◌, ◌/◌, ◌%◌, ◌^◌, ◌++◌, ℕ, zero, suc, ℤ, pos, negsuc, nat_abs, List, [], ◌∷◌, length, map}
 use Rattle.std.proofs.Common.{true, false, not, refl, sym, ap, ◌∙◌, inl, inr, arith}
 use Rattle.std.specs.Prelude.{codes, flat_map, ◌==◌, filter}
@@ -200,7 +200,7 @@ note_read id place rest =
 
 -- ## a clause
 
--- the line of a clause without its LF
+-- a clause's line, without the LF
 unfoldable pub clause_front : Clause → List ℕ
 clause_front c = flat_map (λ l. signed_decimal l ++ codes " ") c ++ codes "0"
 

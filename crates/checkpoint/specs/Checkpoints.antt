@@ -14,14 +14,15 @@ use Rattle.checkpoint.specs.Printing.{formula_text, printed}
 use Rattle.checkpoint.specs.declared.saving.SaveFault.{SaveFault}
 use Rattle.checkpoint.specs.declared.saving.SaveFault.TheVariants as faults
 
--- the bytes are a text of a formula over the same variables whose clauses all follow from this one
+-- the bytes are a text of a formula over the original's variables, whose clauses all follow from
+-- the original
 pub record IsCheckpoint (original : Cnf) (bytes : List ℕ) : Type 0 where
   pub formula : Cnf
   pub text : IsFormulaText bytes formula
   pub entails : Entails original formula
 
--- What was written is a checkpoint of the original; its formula is the next one, if a next one is
--- given.
+-- The bytes that were written are a checkpoint of the original. If `next` has a formula, it is the
+-- checkpoint's.
 pub record WritesCheckpoint (original : Cnf) (before after : Option (List ℕ))
     (next : Option Cnf) : Type 0 where
   pub bytes : List ℕ
@@ -29,15 +30,15 @@ pub record WritesCheckpoint (original : Cnf) (before after : Option (List ℕ))
   pub checkpoint : IsCheckpoint original bytes
   pub next_is : ForSome next (λ formula. formula ≡ checkpoint.formula)
 
--- a formula may have this many clauses of these lengths
+-- the number of the clauses and the length of each are within the limits of a formula
 abbrev pub AreWithinLimits : List Clause → Type 0
 AreWithinLimits clauses =
     (length clauses ≤ max_clauses)
     × AllByRecursion (λ clause. length clause ≤ max_clause_literals) clauses
 
--- The result of saving clauses: their text was written, and the next formula, if one is given, is
--- the printed one; or nothing was written, because the clauses are too many or one is too long; or
--- a write failed, and a prefix of the text was written.
+-- The result of saving clauses: their text was written, and the next formula, if given, is the
+-- printed formula; or nothing was written, because there are too many clauses or one is too long;
+-- or a write failed, and a prefix of the text was written.
 abbrev pub Saves : Result (Option Cnf) SaveFault → ℕ → List Entry → Option (List ℕ)
     → Option (List ℕ) → Type 0
 Saves (Ok next) vars entries before after =
@@ -75,12 +76,12 @@ IsUnsatisfiableTextUnder cube bytes =
 
 -- Laws
 
--- if the last file of a chain holds an unsatisfiable formula, the first does
+-- if the last file of a chain holds an unsatisfiable formula, so does the first
 abbrev pub FilesRefute : Type 0
 FilesRefute = (bytes : List ℕ) (more : List (List ℕ)) → AreCheckpoints bytes more
     → IsUnsatisfiableText (last_file bytes more) → IsUnsatisfiableText bytes
 
--- if the last file of a chain holds a formula that is unsatisfiable under a cube, the first does
+-- if the last file of a chain holds a formula that is unsatisfiable under a cube, so does the first
 abbrev pub FilesRefuteUnder : Type 0
 FilesRefuteUnder = (cube : CubeValue) (bytes : List ℕ) (more : List (List ℕ))
     → AreCheckpoints bytes more → IsUnsatisfiableTextUnder cube (last_file bytes more)

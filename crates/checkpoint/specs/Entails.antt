@@ -28,21 +28,21 @@ EntailsItself = (f : Cnf) → Entails f f
 abbrev pub EntailsOnward : Type 0
 EntailsOnward = (f g h : Cnf) → Entails f g → Entails g h → Entails f h
 
--- what entails an unsatisfiable formula is unsatisfiable
+-- a formula that entails an unsatisfiable formula is unsatisfiable
 abbrev pub RefutesBack : Type 0
 RefutesBack = (f g : Cnf) → Entails f g → IsUnsatisfiable g → IsUnsatisfiable f
 
--- what entails a formula that is unsatisfiable under a cube is unsatisfiable under it, too
+-- if a formula is unsatisfiable under a cube, so is each formula that entails it
 abbrev pub RefutesBackUnder : Type 0
 RefutesBackUnder = (f g : Cnf) (cube : CubeValue) → Entails f g → IsUnsatisfiableUnder g cube
     → IsUnsatisfiableUnder f cube
 
--- if the last formula of a chain is unsatisfiable, the first one is
+-- if the last formula of a chain is unsatisfiable, so is the first one
 abbrev pub ChainRefutes : Type 0
 ChainRefutes = (f : Cnf) (gs : List Cnf) → IsChain f gs → IsUnsatisfiable (last_of f gs)
     → IsUnsatisfiable f
 
--- if the last formula of a chain is unsatisfiable under a cube, the first one is
+-- if the last formula of a chain is unsatisfiable under a cube, so is the first one
 abbrev pub ChainRefutesUnder : Type 0
 ChainRefutesUnder = (f : Cnf) (gs : List Cnf) (cube : CubeValue) → IsChain f gs
     → IsUnsatisfiableUnder (last_of f gs) cube → IsUnsatisfiableUnder f cube

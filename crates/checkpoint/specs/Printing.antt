@@ -6,7 +6,7 @@ use Rattle.lrup_model.specs.Formula.{Cnf, IsCnf}
 use Rattle.dimacs.specs.FormulaText.{IsFormulaText}
 use Rattle.checkpoint.specs.Live.{Entry, clauses_of}
 
--- the numbers of variables and of clauses
+-- the header, with the numbers of variables and of clauses
 abbrev pub header_line : ℕ → ℕ → List ℕ
 header_line vars count =
     codes "p cnf " ++ decimal vars ++ codes " " ++ decimal count ++ codes "\n"
@@ -23,12 +23,12 @@ clause_line clause = flat_map (λ l. signed_decimal l ++ codes " ") clause ++ co
 abbrev pub entry_text : ℕ → Entry → List ℕ
 entry_text place entry = note entry.id place ++ clause_line entry.clause
 
--- the notes and lines of clauses, at the places from this one on
+-- the notes and lines of clauses, the first of which has this place
 abbrev pub entries_text : ℕ → List Entry → List ℕ
 entries_text place [] = []
 entries_text place (entry ∷ entries) = entry_text place entry ++ entries_text (place + 1) entries
 
--- the header, and the text of each clause, at the places from 1 on
+-- the header, and the text of each clause; the first clause has place 1
 unfoldable pub formula_text : ℕ → List Entry → List ℕ
 formula_text vars entries = header_line vars (length entries) ++ entries_text 1 entries
 

@@ -1,4 +1,4 @@
-//! Laws of checkpoints: what a formula says about another one that entails it. Each function does
+//! Laws of checkpoints: what holds for a formula that entails another formula. Each function does
 //! nothing: its contract is the law. If it calls another function, its proof uses that function's
 //! law.
 ghost use Rattle.checkpoint.specs.Checkpoints.{FilesRefute, FilesRefuteUnder};

@@ -28,8 +28,8 @@ pub fn live_clauses<M: ClauseMap, K: Wanted>(
     wanted: &K,
 ) -> Result<Vec<Clip>, AllocError>
     requires { last ≤ last_identity (M.caller_view map.old).caller.layout }
-    // The calls are these fetches, with these replies, and the clauses are the live and wanted
-    // ones.
+    // The calls fetch the identities from 1 on, with these replies, and the clips are those of the
+    // live and wanted clauses.
     ensures fetched { (replies : List Reply)
         × M.moves map.old map.new (fetches (M.caller_view map.old).caller.stream 1 replies)
         × (length replies ≤ last)

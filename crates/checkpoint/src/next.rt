@@ -12,7 +12,7 @@ use lrup_model::{ClauseMap, Clip, Formula, Lit};
 use std::alloc::{AllocError, Global};
 
 /// The formula of the clips' clauses, over the variables 1 to `vars`, if the run continues. The
-/// call makes no event.
+/// call causes no events.
 pub(crate) fn next_formula<M: ClauseMap>(
     alloc: Global,
     map: &mut M,

@@ -26,12 +26,12 @@ pub enum SaveFault {
     /// Out of memory. Nothing was written.
     #[error("checkpoint not written: out of memory")]
     Memory,
-    /// There are more wanted clauses than a formula may have, or one is too long. Nothing was
+    /// There are more wanted clauses than a formula may have, or a clause is too long. Nothing was
     /// written.
     #[error("checkpoint refused: limit")]
     TooLarge,
-    /// A write failed, or the file couldn't be kept. A prefix of the text was written, perhaps all
-    /// of it.
+    /// A write failed, or the file couldn't be flushed to disk. A prefix of the text was written,
+    /// perhaps all of it.
     #[error("checkpoint not written")]
     Unwritten,
 }
@@ -86,7 +86,7 @@ pub fn save<M: ClauseMap, K: Wanted, W: Sink>(
 
 /// Writes the formula of these clauses, each of which follows from the run's formula. They may be
 /// all live clauses, or only some. If the run continues, the call returns the formula; only then
-/// does it allocate. It makes no event.
+/// does it allocate. It causes no events.
 pub fn save_clips<M: ClauseMap, W: Sink>(
     alloc: Global,
     map: &mut M,

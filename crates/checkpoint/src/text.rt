@@ -12,7 +12,7 @@ use lrup_text::{Sink, WriteBuffer, WriteFault};
 
 /// Writes the formula over the variables 1 to `vars` with the clauses of the clips, in order. If a
 /// clause's identity isn't its number in the new formula, a comment before the clause gives the
-/// identity. If the sink fails, a prefix of the text was written. The call makes no event.
+/// identity. If the sink fails, a prefix of the text was written. The call causes no events.
 pub fn write_formula<M: ClauseMap, W: Sink>(
     map: &mut M,
     clips: &[Clip],

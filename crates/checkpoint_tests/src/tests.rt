@@ -16,12 +16,12 @@ use test_support::Paper;
 mod limits;
 mod worked;
 
-/// Stops the test if two values differ. Since it is a function, the assertion is proved only once.
+/// Stops the test if two values differ. This is a function, so the assertion is proved only once.
 fn same<T: PartialEq + fmt::Debug + Drop>(rt: &impl Abort, value: T, wanted: T) {
     assert_eq!(rt; value, wanted);
 }
 
-/// Wants all identities except those of a range, which includes both ends.
+/// Wants all identities except those in a range, which includes both ends.
 #[derive(Clone, Copy)]
 struct Except(Id, Id);
 
@@ -80,8 +80,8 @@ static WRITTEN: [(&str, &str); 5] = [
     ),
 ];
 
-/// Saves a formula with writes of at most `most` bytes. Write number `fails_at` fails; if that is
-/// 0, none does.
+/// Saves a formula with writes of at most `most` bytes. Write number `fails_at` fails; if
+/// `fails_at` is 0, no write fails.
 fn saves(
     rt: &(impl Abort + AllocGlobal),
     formula: &Formula,

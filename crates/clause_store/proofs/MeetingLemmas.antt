@@ -28,7 +28,7 @@ sync_next (suc i) u v w (x ∷ xs) [] d y within synced meets = absurd synced
 sync_next (suc i) u v w (x ∷ xs) (z ∷ ys) d y within synced meets =
     (synced.0, synced.1, sync_next i synced.0 v w xs ys d y (omega arith) synced.2 meets)
 
--- if the pass has met as many others as there are, it has met all
+-- if the pass has met the first n of n others in turn, it has met all of them in turn
 pub synced_all : (u v : View) (xs ys : List PassValue) → IsSynced (length xs) u v xs ys → SyncInTurn u (views xs) v (views ys)
 synced_all u v [] [] synced = synced.0
 synced_all u v [] (y ∷ ys) synced = absurd (let same : y ∷ ys ≡ [] = synced.1 in cc)

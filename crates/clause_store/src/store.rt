@@ -86,8 +86,8 @@ impl Store {
         pass.seat.room()
     }
 
-    /// Looks up an identity, at least 1 and at most the last one, with one load of its word, which
-    /// holds the state, the length and the start of the clause. The reply is what the store had
+    /// Looks up an identity, which is at least 1 and at most the last one. One load of its word
+    /// gives the state, the length and the start of the clause. The reply is what the store had
     /// there at that moment. The call changes nothing; the pass is `&mut` since contracts record in
     /// it what was seen.
     #[inline]
@@ -112,7 +112,7 @@ impl Store {
 
     /// With one load, reads literal `k`, counted from 0, of a clause whose clip the pass has
     /// fetched. The literals are in the order in which they were published or occur in the formula.
-    /// The clause may be retired: its literals stay.
+    /// The clause may be retired: its literals stay in the row.
     #[inline]
     pub fn literal(&self, pass: &mut Pass, clip: &Clip, k: u32) -> Lit
         requires store { store_of pass.old ≡ self.now }
@@ -193,8 +193,8 @@ impl Store {
     }
 
     /// Lets two passes share what they have seen: afterwards both have seen the same history, which
-    /// begins with what each had seen before. A pass that had already seen all that the other had
-    /// keeps its history. The call is not an event, and changes no clause.
+    /// begins with what each had seen before. If one of them had already seen everything that the
+    /// other had, its history stays the same. The call is not an event, and changes no clause.
     pub fn meet(&self, first: &mut Pass, second: &mut Pass)
         requires first { store_of first.old ≡ self.now }
         requires second { store_of second.old ≡ self.now }

@@ -1,4 +1,4 @@
-//! Passes of one store, in turn and on threads of their own.
+//! Passes of one store, used in turn and on threads of their own.
 ghost use Rattle.std.specs.Prelude.{◌≡◌, ◌-◌, ◌<◌, ◌≤◌, ◌∷◌, [], pos, neg_ℤ, IfOk, IfSome, IsTrue};
 ghost use Rattle.lrup_model.specs.Event.{History};
 ghost use Rattle.lrup_model.specs.History.{IsPublishable};
@@ -27,13 +27,12 @@ mod interleavings;
 mod meeting;
 mod memory;
 
-/// Stops the test if two values differ. This is a function so that the assertion is proved only
-/// once.
+/// Stops the test if two values differ. This is a function, so the assertion is proved only once.
 fn same<T: PartialEq + fmt::Debug + Drop>(rt: &impl Abort, value: T, wanted: T) {
     assert_eq!(rt; value, wanted);
 }
 
-/// Stops the test if this doesn't hold.
+/// Stops the test if the fact is false.
 fn holds(rt: &impl Abort, fact: bool)
     ensures { IsTrue fact }
 {
@@ -159,7 +158,7 @@ fn call_once(store: &Store, mut pass: Pass, call: Call) -> (Pass, Option<bool>)
     (pass, done)
 }
 
-/// Makes this call. If `apart`, this is done in a thread of its own, which is joined.
+/// Makes this call; if `apart`, in a thread of its own, which is then joined.
 fn call_by<R: Threads>(
     rt: &R,
     apart: bool,
@@ -227,7 +226,7 @@ fn retire_in_turn<R: Threads + Abort>(
 }
 
 /// Publishes and retires in turn; afterwards the second pass can neither publish under 6 nor retire
-/// it again.
+/// 6 again.
 fn call_in_turn<R: Threads + Abort>(rt: &R, apart: bool, store: &Store, a: &mut Pass, b: Pass)
     requires first { IsPassAt four store.now a.old }
     requires second { IsPassAt four store.now b }
@@ -473,7 +472,8 @@ fn publish_raced(store: &Store, pass: &mut Pass, id: Id) -> Option<Published>
     })
 }
 
-/// Whether the clip has its identity's clause of the race, with the literals in any order.
+/// Whether the clip's clause is the one that the race publishes under its identity, with the
+/// literals in any order.
 fn is_raced(store: &Store, pass: &mut Pass, clip: &Clip) -> bool
     requires store { store_of pass.old ≡ store.now }
     requires known { IsKnown (pass_caller_view pass.old.view) clip.now }

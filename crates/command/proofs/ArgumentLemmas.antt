@@ -1,4 +1,4 @@
--- What the system gives: arguments or an error.
+-- Lemmas about what the system gives: arguments or an error.
 use Rattle.std.proofs.Common.{◌≡◌, ◌≢◌, ℕ, IfOk, List, Ok, Result, inl, inr, refl, subst, sym}
 use Rattle.std.specs.Prelude.{IsOkAnd}
 use Rattle.std.specs.declared.alloc.Global.{Global}
@@ -40,7 +40,7 @@ out_of_memory files words out err status untouched said is =
       status_is = is;
     })
 
--- ---- all errors of the system but out of memory
+-- ---- all errors of the system except out of memory
 
 pub other_text : (kind : ErrorKind) → kind ≢ kinds.OutOfMemory → refusal_text kind ≡ not_utf8
 other_text kinds.OutOfMemory other = absurd (other refl)

@@ -1,4 +1,4 @@
--- What follows for the words and the files from what a function read and ran.
+-- Facts about the words and the files that follow from what a function has read and run.
 use Rattle.std.proofs.Common.{◌∙◌, ◌≡◌, Bool, Err, IfOk, IfSome, List, Ok, Option, Result, Some, false}
 use Rattle.std.proofs.Common.{inl, inr, refl, rules, subst, sym, ℕ}
 use Rattle.std.specs.Prelude.{◌↔◌}
@@ -25,7 +25,7 @@ use Rattle.run_files.specs.declared.fault.CommandFault.TheVariants as faults
 use Rattle.command.specs.Commands.{IsUnsatisfiableTextWith, NameUnsatisfiable, NameUnsatisfiableUnder}
 use Rattle.command.specs.internal.Running.{IsLayoutCause, IsRunCause}
 
--- a weaker fact about an `Ok` value
+-- if P implies Q, `IfOk` with P implies `IfOk` with Q
 pub if_ok : {T E : Type 0} (r : Result T E) (P Q : T → Type 0) → ((t : T) → P t → Q t) → IfOk r P → IfOk r Q
 if_ok (Ok t) P Q follows known = follows t known
 if_ok (Err e) P Q follows known = tt
@@ -33,7 +33,7 @@ if_ok (Err e) P Q follows known = tt
 pub some_given : {T : Type 0} {o : Option T} {t : T} (P : T → Type 0) → o ≡ Some t → IfSome o P → P t
 some_given P is known = subst (λ o. IfSome o P) is known
 
--- a run has only one fault
+-- a run doesn't have two different faults
 not_both : {T : Type 0} (stream : ℕ) (fault : LayoutFault)
     → Path (Result T RunFault) (Err (runs.Spawn stream)) (Err (runs.Layout fault)) → ⊥
 not_both stream fault both = search (both, rules)
@@ -41,7 +41,7 @@ not_both stream fault both = search (both, rules)
 no_ring : {T : Type 0} (stream : ℕ) (fault : LayoutFault) → Path (Result T RunFault) (Err (runs.Ring stream)) (Err (runs.Layout fault)) → ⊥
 no_ring stream fault both = search (both, rules)
 
--- the cause for a run's fault
+-- the cause of a run's fault
 pub run_cause : {T R : Type 0} (view : SourceView R) (serial : Bool) (f : Cnf) (run_params : RunParamsValue) (readers : List R)
     (result : Result T RunFault) (fault : RunFault) → result ≡ Err fault
     → ((fault : LayoutFault) → (result ≡ Err (runs.Layout fault)) ↔ IsFault run_params.layout fault)
@@ -69,7 +69,7 @@ has_layout p result outcome is layout fault refused =
 pub ask_for : (words : List Text) (given : CommandLine) → IsCommandLineOf words given → AskFor words given.formula.now (assumed_at given)
 ask_for words given line = record { good = line.good; formula_is = line.said.formula; assume_is = sym line.said.assume }
 
--- if the bytes that were read are a text of an unsatisfiable formula, the words name one
+-- if the bytes that were read are a text of an unsatisfiable formula, the words name such a text
 pub names_unsatisfiable : (files : FilesView) (words : List Text) (given : CommandLine) (bytes : List ℕ) (next : files.its.State)
     → IsCommandLineOf words given
     → WasReadIn files files.first given.formula.now bytes next → IsUnsatisfiableText bytes
@@ -90,7 +90,7 @@ names_unsatisfiable_under files words given bytes next contents known line read 
     known assumed in
     (given.formula.now, assumed_at given, bytes, f, cube, next, after, ask_for words given line, read, text, same, refuted)
 
--- why streams that were opened weren't checked: they have no layout
+-- why streams that were opened weren't checked: the layout has a fault
 module _ (its : Effects) (serial : Bool) (f : Cnf) (run_params : RunParamsValue) (readers : List its.Reader) (before : its.State)
     (path : Option Text) where
   abbrev Starts : CommandFault → its.State → Type 0
@@ -116,7 +116,7 @@ module _ (its : Effects) (serial : Bool) (f : Cnf) (run_params : RunParamsValue)
   run_start faults.Memory after none cause unused = inr (none, inr unused)
   run_start fault after none cause unused = absurd cause
 
--- the cause for a round, from the values that the program has for the round
+-- if the program's values are those of the round, a cause for these values is a cause for the round
 pub round_start : (its : Effects) (given : CommandLine) (cube : CubeValue) (number : ℕ) (f : Cnf) (sizes : Sizes)
     (readers : List its.Reader) (before : its.State) (serial : Bool) (run_params : RunParamsValue) (path : Option Text)
     → serial ≡ given.serial → run_params ≡ run_params_by given cube f sizes → path ≡ created_path given.next number

@@ -38,7 +38,7 @@ module _ (itself : EntailsItself) (onward : EntailsOnward) {its : Effects} {give
       onward formula b.formula round.formula (round_entailed first b more rounds.1)
       (carried_entails b round.formula rounds.0.goes_on)
 
-  -- the formula that a round before the last one saved follows from the first formula
+  -- the formula saved by a round before the last one follows from the first formula
   save_entailed : (first : its.State) (round : Round its given cube) (before : List (Round its given cube))
       → AreRounds formula first (round ∷ before) → SaveEntailed folder formula before
   save_entailed first round [] rounds = tt

@@ -35,7 +35,7 @@ use Rattle.command.specs.lemmas.SavedLemmas.{carried_entails}
 pub for_some : {A : Type 0} (P : A → Type 0) (x : A) → P x → ForSome (Some x) P
 for_some P x is other same = let known : x ≡ other = cc in subst P known is
 
--- with a layout there is at least one stream
+-- a layout without a fault has at least one stream
 pub some_streams : (layout : LayoutValue) → ((fault : LayoutFault) → IsFault layout fault → ⊥) → 0 < layout.streams
 some_streams layout none = elim (cases_lt 0 layout.streams) [
   | inl some ↦ some
@@ -181,7 +181,7 @@ module _ (its : Effects) (given : CommandLine) (cube : CubeValue) (formula : Cnf
   ends_sound_under law last after ends is =
       rounds_refute_under law ends.round ends.before ends.rounds (ends.round.checked.sound_under (sym ends.is.verdict ∙ is))
 
--- the parameters of a round, from the options, the cube and the count that the program has
+-- the parameters of a round, from the program's options, cube and number of streams
 pub run_params_same : (f : Cnf) (given : CommandLine) (cube other : CubeValue) (options : OptionsValue) (sizes : Sizes) (count : ℕ)
     → options ≡ options_by given.tries sizes → other ≡ cube → count ≡ sizes.streams
     → run_params_of options other f count ≡ run_params_by given cube f sizes

@@ -120,7 +120,7 @@ seven_is fault =
     by_status (λ f n. n ≡ 7 → f ≡ faults.Unwritten) (λ n f low is. absurd (low_not_7 n low is)) (λ is. refl)
     (λ unsaved is. absurd (let no : Path ℕ 9 7 = is in cc)) fault
 
--- of the faults, only a checkpoint that wasn't saved has a status of a report
+-- the only fault that has a status of a report is a checkpoint that wasn't saved
 unsaved_is : (fault : CommandFault) → IsOfReport (status_of fault) → (unsaved : SaveFault) × (fault ≡ faults.NotSaved unsaved)
 unsaved_is fault =
     by_status (λ f n. IsOfReport n → (unsaved : SaveFault) × (f ≡ faults.NotSaved unsaved))

@@ -16,7 +16,7 @@ use Rattle.run_files.specs.declared.fault.CommandFault.TheVariants as faults
 use Rattle.command.specs.Commands.{SaysOfRound, SinkChange, SinkTook, TakesUnlessFailed}
 use Rattle.command.specs.Rounds.{last_text, round_text}
 
--- a text that is written when nothing has been written yet is all that was written
+-- if nothing was written before a text, the text is all that was written
 after_nothing : (a b c : Option (List ℕ)) (text : List ℕ) → Keeps a b → Appends b c text → Appends a c text
 after_nothing None b c text keeps appends = tt
 after_nothing (Some xs) None c text keeps appends = absurd keeps
@@ -42,8 +42,8 @@ took_after_text true a b c first text one took = (
 abbrev changed : Option (List ℕ) → Option (List ℕ) → Bool → SinkChange
 changed before after failed = record { before = before; after = after; failed = failed }
 
--- The message about the report follows the one about the round's checkpoint, if the latter was
--- written in full.
+-- The message about the round's checkpoint comes first; if it was written in full, the message
+-- about the report follows.
 pub says_both : (round : ℕ) (a b c : Option (List ℕ)) (broken failed : Bool) (unsaved : Option SaveFault)
     → SaysOfRound round false unsaved (changed a b broken)
     → (broken ≡ true → (c ≡ b) × (failed ≡ true)) → (broken ≡ false → SinkTook (changed b c failed) (error_text faults.Unwritten))
@@ -61,7 +61,7 @@ says_both round a b c true failed (Some fault) said stays goes =
     subst (λ (f : Bool). TakesUnlessFailed f a c text) (sym same.1)
     (said.0, rest, is, subst (λ (o : Option (List ℕ)). Appends a o said.0) (sym same.0) said.3)
 
--- a text that is written after another one: both are written, or a prefix of both
+-- if a text is written after another one, both are written, or a prefix of the two together
 pub writes_after : {E : Type 0} (r : Result (Unit {0}) E) (a b c : Option (List ℕ)) (one two : List ℕ) → Appends a b one
     → WritesText r b c two → WritesText r a c (one ++ two)
 writes_after (Ok u) a b c one two first next = Appends-trans a b c one two first next
@@ -72,7 +72,7 @@ writes_after (Err e) a b c one two first next = (
   Appends-trans a b c one next.0 first next.3,
 )
 
--- if a write broke off in the first text, a prefix of both texts was written
+-- if a write broke off in the first text, a prefix of the two texts together was written
 pub breaks_before : (a b : Option (List ℕ)) (one two : List ℕ) → (went rest : List ℕ) × (one ≡ went ++ rest) × Appends a b went
     → (went rest : List ℕ) × (one ++ two ≡ went ++ rest) × Appends a b went
 breaks_before a b one two broken =

@@ -1,4 +1,4 @@
--- The arguments that the program is started with (this project's own).
+-- The arguments with which the program is started (this project's own).
 use Rattle.std.specs.Prelude.{◌≡◌, List, codes, drop, map, string_bytes, ℕ}
 use Rattle.std.specs.Vec.Iter.{into_iter_items}
 use Rattle.std.specs.declared.alloc.Global.{Global}
@@ -29,7 +29,7 @@ abbrev pub refusal_status : ErrorKind → ℕ
 refusal_status kinds.OutOfMemory = status_of faults.Memory
 refusal_status kind = 2
 
--- The program ends because the system gives no arguments, and reports the cause.
+-- The system gives no arguments. The program reports the cause and ends.
 pub record EndsWithoutArguments (kind : ErrorKind) (out err : SinkChange)
     (status : ℕ) : Type 0 where
   pub untouched : IsUntouched out

@@ -56,7 +56,7 @@ NameUnsatisfiableUnder F Read first words =
 
 -- The bytes read from FORMULA, the first file to be opened, are a text of a formula. Then the
 -- assumed literals were read, if any, and the streams were opened. `Came formula` describes what
--- else was done to the files.
+-- was then done to the files.
 pub record ComesLast {F R : Type 0} (opens : F → Text → R → F → Type 0)
     (Read : F → Text → List ℕ → F → Type 0) (Came : Cnf → F → F → Type 0) (first : F)
     (words : List Text) (last : F) : Type 0 where
@@ -110,13 +110,13 @@ CheckpointLeftEmpty files words last status =
 
 -- The output.
 
--- a sink: what had been written to it at the start and at the end, and whether it failed by then
+-- a sink: what had been written to it by the start and by the end, and whether it failed by the end
 pub record SinkChange : Type 0 where
   pub before : Option (List ℕ)
   pub after : Option (List ℕ)
   pub failed : Bool
 
--- the change of a sink, in terms of its type
+-- the change of a sink, as the contracts of its type see it
 abbrev pub change : {W : Type 0} → Sink.Ghosts W → W → W → SinkChange
 change its before after = record {
   before = its.written before;
@@ -143,8 +143,8 @@ verdict_status Unsatisfiable = 0
 verdict_status UnsatisfiableUnder = 8
 verdict_status Unknown = 3
 
--- the status: for a report that wasn't written; otherwise for a checkpoint that wasn't saved;
--- otherwise for the verdict
+-- the status says that the report wasn't written; otherwise, that the checkpoint wasn't saved;
+-- otherwise, which verdict the report has
 abbrev pub report_status : Bool → Option SaveFault → Verdict → ℕ
 report_status true unsaved verdict = status_of faults.Unwritten
 report_status false (Some fault) verdict = status_of (faults.NotSaved fault)

@@ -133,8 +133,8 @@ AreRounds formula first (round ∷ before ∷ more) =
     ComesNext before round × AreRounds formula first (before ∷ more)
 
 -- why there is no round after the last one, and the files at the end: the run doesn't continue; or
--- it would, but the next round has sizes and no file for its stream 1, or the next round's number
--- would be 2 ^ 64 - 1 or more
+-- it would continue, but the next round has sizes and no file for its stream 1, or the next round's
+-- number would be 2 ^ 64 - 1 or more
 abbrev pub RoundsEnd : {its : Effects} {given : CommandLine} {cube : CubeValue}
     → Round its given cube
     → its.State → Type 0
@@ -148,9 +148,9 @@ RoundsEnd {its} last after =
 
 -- Causes.
 
--- why the round with this number and this formula, after one with the old sizes, has no report: its
--- sizes weren't read; or they were, but a stream wasn't opened; or all streams were opened, but not
--- checked
+-- why the round with this number and this formula, after a round with the old sizes, has no report:
+-- its sizes weren't read; or they were, but a stream wasn't opened; or all streams were opened, but
+-- not checked
 abbrev pub IsRoundCause : (its : Effects) → CommandLine → CubeValue → Text → ℕ → Sizes → Cnf
     → its.State → CommandFault → its.State → Type 0
 IsRoundCause its given cube folder number old formula before fault after =
@@ -176,7 +176,7 @@ IsNextCause {its} {given} {cube} last fault after =
 abbrev pub round_text : ℕ → List ℕ
 round_text number = codes "c round " ++ decimal number ++ codes "\n"
 
--- the report of the last round, from round 2 on after the line with its number
+-- the report of the last round; from round 2 on, it comes after the line with the round's number
 abbrev pub last_text : ℕ → List Report → Verdict → List ℕ
 last_text number reports verdict =
     (if number == 1 then [] else round_text number) ++ report_text reports verdict
@@ -226,8 +226,8 @@ IsCauseIn files words number fault after =
     ((number ≡ 1) × IsCause files words fault after)
     ⊎ FailsLater files words number fault after
 
--- The program ends without a report, reports why the round with this number has none, and leaves
--- these files.
+-- A round has no report. The program writes only the cause, to standard error, and leaves these
+-- files.
 pub record EndsWithFault (files : FilesView) (words : List Text) (after : files.its.State)
     (out err : SinkChange) (status : ℕ) : Type 0 where
   pub number : ℕ

@@ -66,10 +66,10 @@ pub fn command_with_arguments<
         (⟦<F as Viewed>⟧.view files.old) (words_after_name given) files.new (exit_status result)) }
     ensures usage { IfOk arguments (λ given. HaveFault (words_after_name given)
         → (exit_status result ≡ 2) ⊎ (exit_status result ≡ 6)) }
-    // If the system gives no arguments, the program reports the cause,
+    // If the system gives no arguments, the program reports the cause.
     ensures refused { IfErr arguments (λ error. EndsWithoutArguments (error_kind error)
         (change O.Sink out.old out.new) (change E.Sink err.old err.new) (exit_status result)) }
-    // and leaves the files unchanged.
+    // If the system gives no arguments, the files are unchanged.
     ensures untouched { IfErr arguments (λ _. files.new ≡ files.old) }
     // The status is 7 exactly if `out` has failed.
     ensures unwritten { IsTrue (O.has_failed out.new) ↔ (exit_status result ≡ 7) }

@@ -20,8 +20,7 @@ pub(crate) struct Course<'a> {
 }
 
 impl Course<'_> {
-    /// The options of a round with these sizes. Such options exist, since the words allow no more
-    /// tries than `few` says.
+    /// The options of a round with these sizes. Such options exist, since `few` limits the tries.
     pub(crate) fn options(&self, sizes: Sizes) -> Options
         ensures { result ≡ options_by self.now.line.now.tries sizes }
     {

@@ -54,7 +54,7 @@ use std::time::Clock;
 /// - 4: the formula or the assumptions were refused for a cause other than memory.
 /// - 5: the file of the formula, of the assumptions or of a round's sizes couldn't be opened or
 ///   read; a stream's file couldn't be opened; the checkpoint's file couldn't be created.
-/// - 6: memory ran out, except in the check of a stream, whose report says so, and while saving; a
+/// - 6: memory ran out, but not while checking a stream (then its report says so) or saving; a
 ///   thread couldn't be started; a stream's end got lost between its two threads.
 /// - 7: the report couldn't be written.
 /// - 8: the report says `s UNSATISFIABLE UNDER ASSUMPTIONS`.
@@ -78,8 +78,7 @@ pub fn command<T: Threads + Wait + Sync, C: Clock + Sync, F: Machine, O: Sink, E
     // assumptions' file.
     ensures sound_under { let read = WasRead F.opens F.Input.Source.reads (F.contents files.old) in
         result ≡ 8 → NameUnsatisfiableUnder _ read files.old (texts words.now) }
-    // There is either a report, or no report and the message for one cause; and the exit status
-    // matches.
+    // There is either a report, or only the message for one cause; and the exit status matches.
     ensures ends { ProgramEnds (⟦<F as Viewed>⟧.view files.old) (texts words.now) files.new
         (change O.Sink out.old out.new) (change E.Sink err.old err.new) result }
     // With status 3 or 8, if the words ask for a checkpoint, what was saved is a text of a formula
@@ -90,12 +89,12 @@ pub fn command<T: Threads + Wait + Sync, C: Clock + Sync, F: Machine, O: Sink, E
     // If a report was written (status 0, 3, 8 or 9), and the words ask for rounds, each round
     // before the last one saved a text of a formula for the next round. This formula has the same
     // variables, and its clauses all follow from FORMULA. With status 3 or 8 the last round saved
-    // one, too.
+    // such a text, too.
     ensures saved_rounds { RoundsEntailed (⟦<F as Viewed>⟧.view files.old) (texts words.now)
         files.new (change O.Sink out.old out.new) (change E.Sink err.old err.new) result }
-    // With status 0, if the words ask for a checkpoint, none was written: its file was created
-    // after the streams were opened, and discarded before anything was written to it. Nothing was
-    // done to the files after that.
+    // With status 0, if the words ask for a checkpoint, its file stayed empty: it was created after
+    // the streams were opened, and discarded before anything was written to it. Nothing was done to
+    // the files after that.
     ensures none_saved { CheckpointLeftEmpty (⟦<F as Viewed>⟧.view files.old) (texts words.now)
         files.new result }
     // If the words have a fault, the status is 2, or 6 if memory ran out.
@@ -128,7 +127,7 @@ pub fn check_formula<T: Threads + Wait + Sync, C: Clock + Sync, F: Machine, O: S
 ) -> u8
     requires out { O.has_failed out.old ≡ false }
     requires err { E.has_failed err.old ≡ false }
-    // The words allow no more tries.
+    // The words can't ask for more tries.
     requires tries { asked.line.tries ≤ max_tries }
     // With status 0, the bytes are a text of a formula that no assignment satisfies.
     ensures sound { result ≡ 0 → IsUnsatisfiableText asked.entry.formula.items }

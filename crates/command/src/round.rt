@@ -126,7 +126,7 @@ fn close_round<C: Clock + Sync, F: Machine>(
     requires streams { 0 < sizes.streams }
     requires ready { CanBeSaved run.clauses }
     requires output { ForSome output (λ sink. F.Output.Sink.has_failed sink ≡ false) }
-    // This holds for each round whose check had these results.
+    // If the check of a round had the results in `run`, the round ended as `WasFound` says.
     ensures found { let its = ⟦<F as Viewed>⟧.effects in
         let line = course.now.line.now in
         let cube = course.now.cube.now in
@@ -182,7 +182,8 @@ fn have_ended(reports: &[Report]) -> bool
         .all(|report| matches!(report.ending, Ending::Ended))
 }
 
-/// The path of the file to which the round with this number saves its clauses, if there is one.
+/// The path of the file to which the round with this number saves its clauses, if the words ask for
+/// that.
 fn created_path<'a>(
     alloc: Global,
     next: Next<'a>,

@@ -18,8 +18,8 @@ pub(crate) fn now_if<C: Clock + Sync>(clock: &C, asked: bool) -> Option<Instant>
 }
 
 /// Reports to a watcher that a round begins, with the size of its formula and the pause since the
-/// previous round ended. If the clock gives no time, the pause is left out; if memory runs out, the
-/// whole report is.
+/// previous round ended. If the clock gives no time, the pause is left out. If memory runs out,
+/// nothing is reported.
 pub(crate) fn report_begin<C: Clock + Sync, F: Machine>(
     clock: &C,
     alloc: Global,

@@ -1,4 +1,4 @@
--- What words without a fault have: FORMULA and STREAM.
+-- Words without a fault have FORMULA and STREAM.
 use Rattle.std.proofs.Common.{◌≡◌, ◌&&◌, ◌||◌, refl, Bool, true, false, not, List, [], ◌∷◌, is_some, codes}
 use Rattle.clap.specs.Words.{is_simple, Row, Text, built, fault_of, is_simple_and_free, matches_of}
 use Rattle.clap.specs.Walk.{Held, Names, finished, nothing_held, settled, walk, walk_from}

@@ -168,7 +168,7 @@ plain_rows formula first rest plain all = ap (λ (w : Walk). finished rules w.he
 abbrev top : Shape
 top = (built lrupd).top
 
--- no word is a flag that could be refused
+-- a word that doesn't begin with a hyphen isn't refused as a flag
 word_good : (waiting : Waiting) (word : Text) (h : Held) → is_plain word ≡ true → word_fault top [] false waiting word h ≡ []
 word_good idle word h plain =
     ap (λ b. cond b [] (flag_word_fault rules false (long_of word) word h)) (not_two_hyphens word plain)
@@ -246,7 +246,7 @@ use_good again first rest rows few =
     ap (λ f. or_else f (values_fault streams_rule (first ∷ rest))) (range_good (length (first ∷ rest)) (omega arith) few)
     ∙ values_good (first ∷ rest)
 
--- the faults of what comes after the walk
+-- the faults of the steps after the walk
 abbrev tail : Walk → Kinds
 tail w = or_else (entered_fault (built lrupd) w.stopped) (or_else (settle_fault rules false w.held)
     (or_else (defaults_fault (settled rules w.held).rows rules)

@@ -36,7 +36,7 @@ number_within most name default rows up_to small = go (one_of name rows) up_to
     go None h = small
     go (Some t) h = (h t refl).3
 
--- a flag whose text is `true` or `false` is read as that, and a missing one as false
+-- a flag whose text is `true` or `false` is read as that value, and a missing flag as false
 pub flag_read : (found : Option Text) (read : Bool) → (found ≡ None → read ≡ false) → (found ≡ Some (codes "true") → read ≡ true)
     → (found ≡ Some (codes "false") → read ≡ false) → ForSome found (λ t. (t ≡ codes "true") ⊎ (t ≡ codes "false"))
     → read ≡ option_map_or (λ t. bytes_eq t (codes "true")) found false

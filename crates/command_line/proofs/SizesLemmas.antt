@@ -68,7 +68,7 @@ after_streams sizes = decimal sizes.lines ++ 32 ∷ (decimal sizes.room ++ 10 �
 abbrev pub after_lines : Sizes → List ℕ
 after_lines sizes = decimal sizes.room ++ 10 ∷ []
 
--- a text of sizes is three numbers, followed by a space, a space and LF
+-- a text of sizes is three numbers: a space follows each of the first two, and LF the third
 pub record HasThreeNumbers (bytes : List ℕ) (sizes : Sizes) : Type 0 where
   pub streams : IsNumberBefore bytes 32 sizes.streams (after_streams sizes)
   pub lines : IsNumberBefore (after_streams sizes) 32 sizes.lines (after_lines sizes)

@@ -1,4 +1,4 @@
--- What the words mean in the simplest case, as a law for all texts.
+-- What the words mean in the simplest case, as a law for all such words.
 use Rattle.std.specs.Prelude.{◌≡◌, ◌==◌, ◌<◌, ◌^◌, Bool, true, false, not, List, [], ◌∷◌, Option, None, length}
 use Rattle.std.specs.List.{list_all}
 use Rattle.clap.specs.Words.{Text, fault_of}

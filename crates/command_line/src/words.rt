@@ -80,7 +80,7 @@ impl<'a> Paths<'a> {
     }
 }
 
-/// The text of a usage fault or of the help, which ends with LF.
+/// The text of a usage fault or of the help. It ends with LF.
 #[derive(Debug, Drop)]
 pub struct UsageText {
     text: String,

@@ -1,4 +1,4 @@
--- What the clauses of `command` say of files about which contracts know everything.
+-- What the clauses of `command` say about files that contracts describe completely.
 use Rattle.std.proofs.Common.{◌≡◌, ◌∙◌, ◌++◌, ◌+◌, ◌⊎◌, ℕ, ℤ, Bool, true, false, List, [], ◌∷◌, Option, None, Some, Result, Ok, Err}
 use Rattle.std.proofs.Common.{inl, inr, ap, length, refl, sym, subst}
 use Rattle.std.proofs.lemmas.List.{append-nil}
@@ -36,7 +36,7 @@ use Rattle.command_tests.specs.ExactFiles.{RefusesNew, RefusesOpening, IsUnsure,
 use Rattle.command_tests.specs.declared.exact_files.Closing.{Closing}
 use Rattle.command_tests.specs.declared.exact_files.Closing.TheVariants as closings
 
--- When the status is 9.
+-- Runs with status 9.
 
 nine_is : (fault : CommandFault) → status_of fault ≡ 9 → (why : SaveFault) × (fault ≡ faults.NotSaved why)
 nine_is (faults.Usage text) is = absurd (let no : Path ℕ 2 9 = is in cc)
@@ -59,7 +59,7 @@ nine_is faults.TwoCheckpoints is = absurd (let no : Path ℕ 2 9 = is in cc)
 nine_is faults.SizesUnread is = absurd (let no : Path ℕ 5 9 = is in cc)
 nine_is faults.Sizes is = absurd (let no : Path ℕ 2 9 = is in cc)
 
--- what a report with status 9 left at the path
+-- what is left at the path if the report has status 9
 left_unsaved : (its : Effects) (Saves : Result (Option Cnf) SaveFault → its.Output → its.Output → Type 0)
     (failed : Bool) (unsaved : Option SaveFault) (verdict : Verdict) (path : Text) (before : its.State) (next : Option Cnf)
     (after : its.State)
@@ -81,8 +81,8 @@ SavesOf {its} {given} {cube} round =
     SavesCheckpoint its round.formula (run_params_by given cube round.formula round.sizes).layout round.checked.ran.run.history
     round.checked.dropped
 
--- With status 9, if the words ask for a checkpoint at the path, there is a report of one round, and
--- saving to the file there failed.
+-- With status 9, if the words ask for a checkpoint at the path, there was only one round, it has a
+-- report, and saving to the file at the path failed.
 pub record NinthEnd (files : FilesView) (words : List Text) (path : Text) (after : files.its.State) : Type 0 where
   pub given : CommandLine
   pub command_line : IsCommandLineOf words given
@@ -98,7 +98,7 @@ module _ (files : FilesView) (words : List Text) where
   never_assumed vars before None why after cause = cause
   never_assumed vars before (Some path) why after cause = cause
 
-  -- a failed save is never such a cause
+  -- a round never lacks its report because of a failed save
   never_unsaved : (number : ℕ) (why : SaveFault) (after : files.its.State) → IsCauseIn files words number (faults.NotSaved why) after
       → ⊥
   never_unsaved number why after (inl (one, cause)) = elim cause.2 [
@@ -141,8 +141,8 @@ module _ (files : FilesView) (words : List Text) where
       absurd (never_unsaved fault.number is.0 after
       (subst (λ (f : CommandFault). IsCauseIn files words fault.number f after) is.1 fault.cause))
 
--- Files about which contracts know everything: `left` is what their readers have left, and
--- `content` the bytes of their new files.
+-- Files that contracts describe completely: `left` is what their readers have left, and `content`
+-- the bytes of their new files.
 module _ {R W : Type 0} (left : R → List ℕ) (content : W → List ℕ) (reading : SourceView R) (has_failed : W → Bool) where
   abbrev exact_effects : Effects
   exact_effects = record {
@@ -167,7 +167,7 @@ module _ {R W : Type 0} (left : R → List ℕ) (content : W → List ℕ) (read
   abbrev exact_view : ExactValue → FilesView
   exact_view first = record { its = exact_effects; first = first; contents = λ path. Some (text_or_none (text_at first path)) }
 
-  -- what was read from a path is its text
+  -- the bytes that were read from a path are the text of the file there
   was_read : (first : ExactValue) (path bytes : List ℕ) (after : ExactValue)
       → WasReadIn (exact_view first) first path bytes after → FindsText first path bytes after
   was_read first path bytes after read =
@@ -175,7 +175,7 @@ module _ {R W : Type 0} (left : R → List ℕ) (content : W → List ℕ) (read
       let same : left read.reader ≡ bytes = sym (ap text_or_none found.1) ∙ read.known (text_or_none (text_at first path)) refl in
       (found.0, found.1 ∙ ap (λ (text : List ℕ). Some text) same)
 
-  -- openings change nothing
+  -- opening files changes nothing
 
   assumed_stays : (first : ExactValue) (vars : ℕ) (before : ExactValue) (path : Option Text) (cube : List ℤ) (after : ExactValue)
       → AreAssumed (WasReadIn (exact_view first)) vars before path cube after → after ≡ before
@@ -190,7 +190,7 @@ module _ {R W : Type 0} (left : R → List ℕ) (content : W → List ℕ) (read
   opened_stays before [] (reader ∷ readers) after opened = absurd opened
   opened_stays before (path ∷ paths) [] after opened = absurd opened
 
-  -- what closing leaves of a file that was created, and took these bytes
+  -- what closing leaves of a file that was created, and to which these bytes were written
   closed_at : (closing : Closing) (before next : ExactValue) (path : List ℕ) (first last : W) (bytes : List ℕ) (after : ExactValue)
       → IsCreated before path (content first) next → content last ≡ content first ++ bytes
       → ClosesFile closing next (content last) after

@@ -24,12 +24,12 @@ pub record ExactValue : Type 0 where
   pub bytes : List ℕ
   pub closing : Closing
 
--- the initial files: the formula at each path of one byte, the stream at each path of two
+-- the initial files: the formula at each path of one byte, the stream at each path of two bytes
 abbrev pub text_at : ExactValue → List ℕ → Option (List ℕ)
 text_at files path = if nat_eq (length path) 1 then Some files.formula
     else (if nat_eq (length path) 2 then Some files.stream else None)
 
--- the known bytes at a path: none if it has no file
+-- the known bytes at a path: none if there is no file
 abbrev pub text_or_none : Option (List ℕ) → List ℕ
 text_or_none None = []
 text_or_none (Some text) = text
@@ -42,7 +42,7 @@ FindsText before path text after = (after ≡ before) × (text_at before path �
 abbrev pub HasNoFile : ExactValue → List ℕ → ExactValue → Type 0
 HasNoFile before path after = (after ≡ before) × (text_at before path ≡ None)
 
--- an opening is refused if there is no file, and nothing changes
+-- an opening is refused, because there is no file; nothing changes
 abbrev pub RefusesOpening : ExactValue → List ℕ → OpenFault → ExactValue → Type 0
 RefusesOpening before path fault after =
     (fault ≡ open_faults.NotOpened) × HasNoFile before path after
@@ -52,7 +52,7 @@ abbrev pub IsCreated : ExactValue → List ℕ → List ℕ → ExactValue → T
 IsCreated before path bytes after = (text_at before path ≡ None) × (bytes ≡ [])
     × (after ≡ record before { path = path; bytes = []; closing = closings.Open })
 
--- creating a file is refused, since there already is one, or there is no memory for the path; and
+-- creating a file is refused, because the path already has one, or memory for the path runs out;
 -- nothing changes
 abbrev pub RefusesNew : ExactValue → List ℕ → OpenFault → ExactValue → Type 0
 RefusesNew before path fault after = (after ≡ before)

@@ -36,7 +36,7 @@ pub struct ExactFiles<'a> {
     stream: &'a str,
     /// Whether keeping a file always fails.
     is_lossy: bool,
-    /// The number of the write to a new file that fails, counted from 1; 0 if none fails.
+    /// Which write to a new file fails, counted from 1; 0 if no write fails.
     fails_at: usize,
     path: String,
     bytes: Vec<u8>,
@@ -54,7 +54,7 @@ impl<'a> Model for ExactFiles<'a> {
 
 impl<'a> ExactFiles<'a> {
     /// Files of these two texts, before any file is created. Write number `fails_at` to a new file
-    /// fails; if that number is 0, none does.
+    /// fails; if `fails_at` is 0, no write fails.
     pub fn new(
         alloc: Global,
         formula: &'a str,
@@ -178,8 +178,8 @@ impl<'a> Machine for ExactFiles<'a> {
     }
 }
 
-/// Runs the program over these files. What is at the path afterwards follows from only the contract
-/// of `command`.
+/// Runs the program over these files. What is at the checkpoint's path afterwards follows from the
+/// contract of `command` only.
 pub fn run_exactly<T: Threads + Wait + Sync + Clock>(
     threads: &T,
     alloc: Global,

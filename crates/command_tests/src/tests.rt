@@ -26,12 +26,12 @@ mod shelf;
 mod status_0;
 mod watching;
 
-/// What the program is run with.
+/// What tests of the program need of the machine.
 trait Host: Threads + Wait + Sync + Clock + Abort + AllocGlobal {}
 
 impl<T: Threads + Wait + Sync + Clock + Abort + AllocGlobal> Host for T {}
 
-/// Stops the test if two values differ. Since it is a function, the assertion is proved only once.
+/// Stops the test if two values differ. This is a function, so the assertion is proved only once.
 fn same<T: PartialEq + fmt::Debug + Drop>(rt: &impl Abort, value: T, wanted: T) {
     assert_eq!(rt; value, wanted);
 }

@@ -68,7 +68,7 @@ within_at : (vars : ℕ) (before : List ℤ) (z : ℤ) (rest : List ℤ) → All
 within_at vars [] z rest all = all.0
 within_at vars (y ∷ before) z rest all = within_at vars before z rest all.1
 
--- after tokens without a fault, this one has none, either
+-- after tokens without a fault, this token has no fault, either
 pub record IsFine (vars count : ℕ) (token : Token) (closed : List (List ℤ)) (begun : List ℤ) : Type 0 where
   pub number : ℤ
   pub spelled : number_of token.text ≡ Some number

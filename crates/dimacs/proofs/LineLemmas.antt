@@ -53,7 +53,7 @@ lines_at_start-no_comment n b bs ne =
       | false ↦ from_no_comment n b (slice_split ends_line bs) e
     ]
 
--- memchr found the first line end here
+-- if memchr found the first line end at index k, the first line ends there
 pub split_at_line_end : (bs : List ℕ) (k : ℕ) → NoneBefore (Passes (is_byte 10) bs) 0 (length bs) k → Passes (is_byte 10) bs k
     → slice_split ends_line bs ≡ take k bs ∷ slice_split ends_line (drop (k + 1) bs)
 split_at_line_end bs k h found =
@@ -66,7 +66,7 @@ split_at_line_end bs k h found =
     ap (slice_split ends_line) whole ∙ slice_split_at ends_line (take k bs) (get_or bs k 0) (drop (suc k) bs) none found
     ∙ ap (λ (m : ℕ). take k bs ∷ slice_split ends_line (drop m bs)) (sym (add-one k))
 
--- memchr found no line end
+-- if memchr found no line end, all bytes are one line
 pub split_no_line_end : (bs : List ℕ) → Nowhere (Passes (is_byte 10) bs) 0 (length bs) → slice_split ends_line bs ≡ bs ∷ []
 split_no_line_end bs h =
     slice_split_none ends_line bs (λ i d lt.

@@ -9,8 +9,8 @@ use Rattle.lrup_model.specs.Formula.{max_clause_literals}
 use Rattle.dimacs.specs.Lines.{Token}
 use Rattle.dimacs.specs.FormulaTokens.{IsWritten, TokensSpell, ended}
 
--- the numbers of clauses that have ended and of literals in the clause begun, and the largest
--- number of literals in any clause
+-- the numbers of clauses that have ended and of literals in the clause that has begun, and the
+-- largest number of literals in any clause
 pub record Tally : Type 0 where
   pub ended_clauses : ℕ
   pub begun : ℕ

@@ -1,4 +1,4 @@
--- The printed text of a formula is the text that is read token by token.
+-- A file is a text of a formula exactly if the file's tokens, read one by one, spell the formula.
 use Rattle.std.proofs.Common.{inl, inr, ◌≡◌, ◌+◌, ◌-◌, ◌*◌, ◌^◌, ◌<◌, ◌≤◌, ◌&&◌, ◌==◌, ℕ, ℤ, pos, negsuc, neg_ℤ, nat_abs, zero, suc, true}
 use Rattle.std.proofs.Common.{false, not, leb, List, [], ◌∷◌, ◌++◌, codes, map, flat_map, filter, length, get_or, Option, Some, None, refl}
 use Rattle.std.proofs.Common.{sym, ap, ◌∙◌, subst, arith}

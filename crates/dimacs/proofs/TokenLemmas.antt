@@ -113,7 +113,7 @@ digits_within b after rest digits whole which =
     ⊎_elim (λ minus. omega (arith, length-after_run digits, ap length minus.1, ap length whole))
     (λ plain. omega (arith, length-after_run digits, ap length plain.1)) which
 
--- ## its magnitude
+-- ## the magnitude of the number
 
 abs_signed : (t : Bool) (m : ℕ) → nat_abs (cond t (neg_ℤ (pos m)) (pos m)) ≡ m
 abs_signed true m = search rules

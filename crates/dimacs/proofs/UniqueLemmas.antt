@@ -106,7 +106,7 @@ of_body NoHeader vars count all h = absurd h
 of_body BadHeader vars count all h = absurd h
 of_body Memory vars count all h = absurd h
 
--- two indices of a list: the same, or one before the other
+-- two indices of a list are equal, or one comes before the other
 two_places : (xs : List Token) (x : Token) (more : List Token) (ys : List Token) (y : Token) (rest : List Token) → xs ++ x ∷ more
     ≡ ys ++ y ∷ rest → ((xs ≡ ys) × (x ≡ y)) ⊎ (((mid : List Token) × (ys ≡ xs ++ x ∷ mid)) ⊎ ((mid : List Token) × (xs ≡ ys ++ y ∷ mid)))
 two_places [] x more [] y rest e = let same : x ≡ y = cc in inl (refl, same)

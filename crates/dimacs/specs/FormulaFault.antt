@@ -1,6 +1,6 @@
 -- The first fault, in byte order, of a file that isn't a text of a formula: the header is judged as
 -- a whole, and the tokens after it one by one. If one token, or the header, has several faults, the
--- first one in the order of DimacsFault counts. (The faults and their order are this project's own.)
+-- one that DimacsFault lists first counts. (The faults and their order are this project's own.)
 use Rattle.std.specs.Prelude.{◌≡◌, ◌⊎◌, ◌≤◌, ◌<◌, ℕ, ℤ, nat_abs, Some, None, List, [], ◌∷◌, ◌++◌, codes, length}
 use Rattle.lrup_model.specs.Literal.{IsLiteral, max_variable}
 use Rattle.lrup_model.specs.Formula.{max_clauses, max_clause_literals}
@@ -93,7 +93,7 @@ pub record EndsEarly (vars count : ℕ) (tokens : List Token) : Type 0 where
   pub read : TokensSpell vars count tokens closed []
   pub fault : length closed < count
 
--- the first fault of the tokens after a header that has none
+-- the first fault of the tokens after a header that has no fault
 abbrev pub IsBodyFault : DimacsFault → ℕ → ℕ → List Token → Type 0
 IsBodyFault (BadNumber line) vars count tokens = HasBadNumber line vars count tokens
 IsBodyFault (VariableRange line) vars count tokens = HasLargeVariable line vars count tokens
@@ -112,6 +112,6 @@ IsHeaderFault BadHeader lines = HasBadHeader lines
 IsHeaderFault Limit lines = HasLargeHeader lines
 IsHeaderFault _ lines = ⊥
 
--- the first fault of the file; out of memory isn't a fault of a file
+-- the first fault of the file; running out of memory isn't a fault of a file
 abbrev pub IsFormulaFault : List ℕ → DimacsFault → Type 0
 IsFormulaFault bytes fault = IsHeaderFault fault (lines_of bytes) ⊎ InBody bytes (IsBodyFault fault)

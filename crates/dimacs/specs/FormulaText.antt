@@ -10,7 +10,7 @@ use Rattle.dimacs.specs.Lines.{token_lines}
 
 -- The bytes are a text of the formula. The first line of tokens is the header, and the tokens of
 -- the other lines are the literals of the clauses as they are written, each clause followed by a 0.
--- The formula has each literal of a clause once.
+-- In the formula, each clause has each of its literals only once.
 pub record IsFormulaText (bytes : List ℕ) (formula : Cnf) : Type 0 where
   pub lines : List (List (List ℕ))
   pub header : token_lines bytes

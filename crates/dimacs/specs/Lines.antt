@@ -16,7 +16,7 @@ abbrev pub is_empty : {X : Type 0} → List X → Bool
 is_empty [] = true
 is_empty (x ∷ xs) = false
 
--- the longest runs without separators
+-- the maximal runs of bytes that aren't separators
 abbrev pub runs : List ℕ → List (List ℕ)
 runs line = filter (λ run. not (is_empty run)) (slice_split is_separator line)
 
@@ -36,7 +36,7 @@ pub record Line : Type 0 where
   pub number : ℕ
   pub tokens : List (List ℕ)
 
--- the lines that aren't comments and have a token, if the first line has this number
+-- the lines that aren't comments and have a token; the first of all lines has this number
 abbrev pub lines_from : ℕ → List (List ℕ) → List Line
 lines_from number [] = []
 lines_from number (line ∷ lines) =

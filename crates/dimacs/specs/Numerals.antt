@@ -11,7 +11,7 @@ abbrev pub all_digits : List ℕ → Bool
 all_digits [] = true
 all_digits (byte ∷ bytes) = is_digit byte && all_digits bytes
 
--- the number that digits spell after the digits of another number
+-- the number that these digits spell when they follow the digits of another number
 abbrev pub value_after : ℕ → List ℕ → ℕ
 value_after number [] = number
 value_after number (byte ∷ bytes) = value_after (10 * number + (byte - 48)) bytes
@@ -25,7 +25,7 @@ abbrev pub is_numeral : List ℕ → Bool
 is_numeral [] = false
 is_numeral (byte ∷ bytes) = nat_le 49 byte && nat_le byte 57 && all_digits bytes
 
--- the one digit 0
+-- the single digit 0
 abbrev pub is_zero : List ℕ → Bool
 is_zero [] = false
 is_zero (byte ∷ []) = byte == 48

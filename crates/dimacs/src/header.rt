@@ -44,8 +44,8 @@ fn split_run(text: &[u8]) -> (&[u8], &[u8])
     text.split_at(end)
 }
 
-/// The first token of a line, and the rest of the line after it. The token is empty if there is
-/// none.
+/// The first token of a line, and the rest of the line after it. If there is no token, the first
+/// part is empty.
 fn next_run(line: &[u8]) -> (&[u8], &[u8])
     ensures runs { runs line.now ≡ with_run result.0.now (runs result.1.now) }
     ensures whole { first_run result.0.now ≡ result.0.now }

@@ -1,5 +1,5 @@
-//! Reads a formula in DIMACS CNF: the result is exactly what the text says, and a refused text is
-//! refused at its first fault.
+//! Reads a formula in DIMACS CNF: the result is exactly the formula that the text says, or the
+//! first fault of the text.
 #![tactic(auto)]
 
 ghost use Rattle.std.specs.Prelude.{◌≢◌, IfOk, IfErr};

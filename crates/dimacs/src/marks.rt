@@ -1,4 +1,4 @@
-//! A mark for each literal: one bit, 4 MB for all literals.
+//! A mark for each literal. A mark is one bit, and the marks of all literals take 4 MB.
 ghost use Rattle.std.specs.Prelude.{◌≡◌, ◌↔◌, ◌⊎◌, ◌*◌, ◌<◌, ◌≤◌, ℕ, ℤ, [], IsTrue, OnOk, OnErr, length};
 ghost use Rattle.lrup_model.specs.Literal.{code_of};
 ghost use Rattle.dimacs.specs.internal.Marks.{IsBitSet, MarksAre, all_words};

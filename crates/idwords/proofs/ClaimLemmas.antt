@@ -36,8 +36,8 @@ module _ (v : ThreadState) (seat id new : ℕ) (owns : Owns v.view.caller.layout
     (clause : IsPublishable v.view.caller.formula v.draft)
     (is : new ≡ identity_word 1 (length v.draft) v.top) (more : History) (words : List ℕ) (views : List (List ThreadState))
     (kept : OwnKeeps v more words views) (here : get_elem? views seat ≡ some (v ∷ [])) where
-  -- after this word is written at the identity, the row fits a history in which the publish has its
-  -- reply
+  -- after this word is written at the identity, the row fits a history in which the publish has the
+  -- reply that the old word gives
   abbrev Claimed : ℕ → Type 0
   Claimed word = (w : ThreadState) × (log : History)
       × Keeps v.view.caller.formula v.view.caller.layout log (slice_set words id word) (set views seat (w ∷ []))

@@ -73,7 +73,7 @@ module _ (v : ThreadState) (more : History) (words : List ℕ) (views : List (Li
       (legal-front f p (opening f) v.view.seen more kept.legal.events) owns refl
       ∙ ap (λ (h : History). state f h id) (agrees_at v more words views seat kept here).seen
 
-  -- what is stored for one of the stream's own identities is what the thread state knows, too
+  -- the thread state knows what is stored for each of the stream's own identities
   pub own_text : (id : ℕ) → Owns v.view.caller.layout (thread_stream v) id
       → stored_in (spelling_of v.view.caller.formula v.view.caller.layout (v.view.seen ++ more)) id ≡ stored_in v.view.spelt id
   own_text id owns =
@@ -87,7 +87,7 @@ module _ (v : ThreadState) (more : History) (words : List ℕ) (views : List (Li
       let who = owned v.view.caller.layout (thread_stream v) id (omega (arith, kept.plan.layout.some_stream)) owns in
       (omega (arith, who.derived), who.identity)
 
-  -- the word of an own identity is what the stream's own calls left there, too
+  -- the word of one of the stream's own identities is what the stream's own calls left there
   pub own_word : (id : ℕ) → Owns v.view.caller.layout (thread_stream v) id
       → slice_index words id ≡ word_of (state v.view.caller.formula v.view.mine id) (stored_in v.view.spelt id)
   own_word id owns = kept.slots id (own_identity id owns)

@@ -1,4 +1,5 @@
--- Lemmas about the rule: after one more event, for the stream's own thread state and the others.
+-- Lemmas about the rule: it holds after one more event, for the thread state of the event's stream
+-- and for all others.
 use Rattle.std.proofs.Common.{◌≡◌, ◌≢◌, ℕ, ◌+◌, ◌≤◌, List, [], ◌∷◌, ◌++◌, length, set, slice_index, Some, refl, sym, ap, ap₂, subst, ◌∙◌}
 use Rattle.std.proofs.Common.{inl, inr, arith, append-nil, append_assoc, length-append}
 use Rattle.std.specs.List.{AllByRecursion, sum_by}

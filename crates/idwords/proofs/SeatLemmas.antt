@@ -1,4 +1,4 @@
--- Lemmas about seats: from what contracts say about a seat to what a step requires of its token.
+-- Lemmas about seats: what contracts say about a seat implies what a step requires of its token.
 use Rattle.std.proofs.Common.{◌≡◌, ◌≢◌, ◌+◌, ◌-◌, ◌<◌, ◌≤◌, ℕ, eqb, List, [], ◌∷◌, length, refl, sym, ap, ap₂, subst, ◌∙◌, arith, eq-eqb}
 use Rattle.std.proofs.Common.{ne_eqb, ◌++◌, length-append}
 use Rattle.std.proofs.lemmas.Bool.{cond-true, cond-false}

@@ -63,7 +63,7 @@ pub spelling-snoc : (f : Cnf) (p : LayoutValue) (h : History) (e : Event)
 spelling-snoc f p h e =
     spelling-append f p h (e ∷ []) ∙ ap (λ (xs : List Spelling). spelling_of f p h ++ xs) (append-nil (event_spelling p h e))
 
--- What a list stores stays when the list grows
+-- What a list stores stays the same when the list grows
 
 past_some : (b : Bool) (a o o' : Option StoredClause) (k : StoredClause) → (o ≡ Some k → o' ≡ Some k) → cond b a o ≡ Some k
     → cond b a o' ≡ Some k
@@ -409,7 +409,7 @@ pub short : (f : Cnf) (p : LayoutValue) (h : History) (j : ℕ) (stored : Stored
 short f p h j stored cnf legal here =
     short_either f p h j stored cnf legal here (stored_in (clauses_spelling 1 (1 + last_identity p) f.clauses) j) refl
 
--- What is stored for an identity stays if events don't change the identity's slot
+-- What is stored for an identity stays the same if events don't change the identity's slot
 
 own_either : (f : Cnf) (p : LayoutValue) (seen more : History) (id : ℕ) → IsSpelt f seen (spelling_of f p seen)
     → IsSpelt f (seen ++ more) (spelling_of f p (seen ++ more))

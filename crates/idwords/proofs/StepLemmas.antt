@@ -1,5 +1,5 @@
--- Lemmas about steps: from what a step does to a thread state with its own formula and layout to
--- what the row requires of it.
+-- Lemmas about steps: what a step does to a thread state, under that state's own formula and
+-- layout, implies what the row requires of the step.
 use Rattle.std.proofs.Common.{◌≡◌, ℕ, ◌<◌, List, [], ◌∷◌, set, slice_index, slice_set, refl, sym, subst}
 use mathlib.Core.Option.{some}
 use lib.ListN.{get_elem?}
@@ -13,9 +13,9 @@ use Rattle.idwords.specs.internal.Steps.{Changes, Writes, Stores}
 use Rattle.idwords.proofs.RuleLemmas.{OwnKeeps}
 use Rattle.idwords.proofs.ViewLemmas.{all_at}
 
--- In every row that fits a log beginning with what this thread state has seen, and in which this is
--- the only thread state of token id: after the step on word i, there is a new thread state with
--- which the row fits a log, and for which `then` is true.
+-- Take a row that fits a log beginning with what this thread state has seen, and in which token id
+-- has only this thread state. After the step on word i, there is a new thread state with which the
+-- row fits a log, and for which `then` is true.
 abbrev pub OwnStep : ThreadState → ℕ → ℕ → (ℕ → ℕ) → (ℕ → ThreadState → Type 0) → Type 0
 OwnStep v id i f then =
     (more : History) (words : List ℕ) (views : List (List ThreadState)) → OwnKeeps v more words views → get_elem? views id ≡ some (v ∷ [])

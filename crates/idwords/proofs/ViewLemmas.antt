@@ -57,8 +57,8 @@ times-same views id v w here stream once s =
 one_of : (a b : ℕ) → a ≡ b → ◌≡◌ {A = ℕ} (cond (eqb a b) 1 0) 1
 one_of a b same = cond-true (eqb a b) 1 0 (eq-eqb a b same)
 
--- if none of the thread states is stream s's, and those of other streams go from P to Q, all go
--- from P to Q
+-- if none of the thread states is stream s's, P holds of all, and P implies Q for thread states of
+-- other streams, then Q holds of all
 all_others : (P Q : ThreadState → Type 0) (s : ℕ) (vs : List ThreadState) → count_in s vs ≤ 0 → AllByRecursion P vs
     → ((q : ThreadState) → thread_stream q ≢ s → P q → Q q) → AllByRecursion Q vs
 all_others P Q s [] none all go = tt
@@ -84,8 +84,8 @@ counted (us ∷ views) zero v here =
     omega arith
 counted (us ∷ views) (suc id) v here = let rest = counted views id v here in omega arith
 
--- if a token's one thread state changes and then meets Q, and those of all other streams go from P
--- to Q, all meet Q
+-- if P holds of all thread states and implies Q for those of other streams, then Q holds of all
+-- after a token's one thread state is replaced by another one of which Q holds
 pub moved : (P Q : ThreadState → Type 0) (views : List (List ThreadState)) (id : ℕ) (v w : ThreadState) → get_elem? views id ≡ some (v ∷ [])
     → times (thread_stream v) views ≤ 1 → AllThreads P views
     → ((q : ThreadState) → thread_stream q ≢ thread_stream v → P q → Q q) → Q w → AllThreads Q (set views id (w ∷ []))

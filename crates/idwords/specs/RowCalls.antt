@@ -27,7 +27,7 @@ IsText spellings place word =
     → slice_get stored.literals k ≡ Some l → place ≡ stored.start + k / 2
     → half_of (k % 2) word ≡ code_of l
 
--- the top after a publish of a draft with this reply
+-- the top after this reply to a publish of the draft
 abbrev pub top_after_reply : Published → ℕ → Clause → ℕ
 top_after_reply publishing.Done top draft = top + words_for (length draft)
 top_after_reply publishing.Taken top draft = top

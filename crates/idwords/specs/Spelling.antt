@@ -31,7 +31,7 @@ first_place layout s = 1 + last_identity layout + layout.literals + (s - 1) * la
 abbrev pub words_taken : Event → ℕ
 words_taken event = words_for (size_of event)
 
--- how many words all clauses that a stream published with the reply `Done` take
+-- the number of words for all clauses that a stream published with the reply `Done`
 abbrev pub words_spent : ℕ → History → ℕ
 words_spent s history = sum_by words_taken (own history s)
 
@@ -47,7 +47,7 @@ event_spelling layout before (events.publish s id clause publishing.Done) =
 event_spelling layout before (events.publish s id clause publishing.Taken) = []
 event_spelling layout before (events.retire s id reply) = []
 
--- the clauses that a history stores when it comes after an earlier one
+-- the clauses that a history stores after an earlier history
 abbrev pub added_spelling : LayoutValue → History → History → List Spelling
 added_spelling layout before [] = []
 added_spelling layout before (event ∷ history) =

@@ -49,7 +49,7 @@ fn seats_of(
         ≡ Some (opening_seat table.now.shared.table_id formula layout.now (k + 1))) }
 {
     let mut seats = Vec::with_capacity(alloc, layout.streams() as usize)?;
-    // The rooms of the streams are the last words of the row, stream 1 first. A room of n literals
+    // The last words of the row are the streams' rooms, in the streams' order. A room of n literals
     // has n words.
     let mut top = layout.row_words() - layout.all_room();
     for _s in 0..layout.streams() {
@@ -219,9 +219,9 @@ impl Row {
     }
 
     /// Lets two seats share what they have seen: afterwards both have seen the same history, which
-    /// begins with what each had seen before. A seat that had already seen all that the other had
-    /// keeps its history. Used for contracts only: the one load changes nothing in the row, and is
-    /// not an event.
+    /// begins with what each had seen before. If one of them had already seen everything that the
+    /// other had, its history stays the same. Used for contracts only: the one load changes nothing
+    /// in the row, and is not an event.
     pub fn meet(&self, first: &mut Seat, second: &mut Seat)
         requires first { first.old.table ≡ self.now }
         requires second { second.old.table ≡ self.now }

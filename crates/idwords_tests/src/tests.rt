@@ -14,13 +14,12 @@ use std::process::Abort;
 use std::test::Fail;
 use test_support::{four_clauses, lit};
 
-/// Stops the test if two values differ. This is a function so that the assertion is proved only
-/// once.
+/// Stops the test if two values differ. This is a function, so the assertion is proved only once.
 fn same<T: PartialEq + fmt::Debug + Drop>(rt: &impl Abort, value: T, wanted: T) {
     assert_eq!(rt; value, wanted);
 }
 
-/// Stops the test if this doesn't hold.
+/// Stops the test if the fact is false.
 fn holds(rt: &impl Abort, fact: bool)
     ensures { IsTrue fact }
 {
@@ -159,7 +158,7 @@ fn retire(row: &Row, layout: &Layout, seat: &mut Seat, stream: u64, id: u64) -> 
     Some(row.withdraw(seat, id))
 }
 
-/// Words of two literals, the first one in the lower half.
+/// Words of two literals each; the first literal is in the lower half.
 const PAIR_1_2: u64 = 17179869186;
 
 const PAIR_N1_2: u64 = 17179869187;
@@ -174,8 +173,8 @@ static OPENED: [u64; 16] = [
     0, 0, 0, 0,
 ];
 
-/// Checks the row of `OPENED` after opening, after a publish, and after the published clause was
-/// retired.
+/// Checks the row of `OPENED` after opening, after a publish, and after the published clause has
+/// been retired.
 fn check_words(rt: &impl Abort, row: &Row, layout: &Layout, seat: &mut Seat)
     requires { IsSeatAt four row.now layout.now 1 seat.old }
 {
@@ -299,8 +298,8 @@ fn spend_all(rt: &impl Abort, row: &Row, layout: &Layout, seat: &mut Seat)
     same(rt, seat.room(), 0);
 }
 
-/// The second stream retires a clause, and can then neither retire nor publish under its identity
-/// again.
+/// The second stream retires a clause, and can then neither retire it again nor publish under its
+/// identity.
 fn retire_six(rt: &impl Abort, row: &Row, layout: &Layout, seat: &mut Seat)
     requires { IsSeatAt four row.now layout.now 2 seat.old }
 {

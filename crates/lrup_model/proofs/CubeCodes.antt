@@ -58,7 +58,7 @@ place_of (code ∷ codes) l (inr h) =
 literal_of-code_of : (l : ℤ) → IsCode max_variable (code_of l) → literal_of (code_of l) ≡ l
 literal_of-code_of l code = code_of-injective (literal_of (code_of l)) l (code_of-literal_of (code_of l) code.0)
 
--- a binary search for a literal's code finds it exactly if the literal is there
+-- a binary search for a literal's code finds it exactly if the literal is in the cube
 pub found : (codes : List ℕ) (l : ℤ) (r : Result ℕ ℕ) → AreCubeCodes codes → IsCode max_variable (code_of l)
     → IsBinarySearchResult (λ y. nat_cmp y (code_of l)) codes r → IsTrue (is_ok r) ↔ Has (map literal_of codes) l
 found codes l (Ok i) are code searches =

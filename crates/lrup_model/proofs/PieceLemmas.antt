@@ -82,7 +82,7 @@ grown vars ls xs ends h room clause =
       AreEnds-push 0 ends (length ls) (length ls + length xs) h.1 (omega arith),
     )
 
--- lists that satisfy these equations are the formula after one more clause is appended
+-- lists that satisfy these equations make up the formula with one more clause appended
 pub grown_to : (f : Cnf) (vars : ℕ) (ls xs more : Clause) (ends new : List ℕ)
     → ◌≡◌ {A = Cnf} (record { vars = vars; clauses = pieces ls 0 ends }) f
     → IsCnf (record { vars = vars; clauses = pieces ls 0 ends }) × AreEnds 0 ends (length ls)

@@ -29,7 +29,7 @@ abbrev pub WithinRefutes : Type 0
 WithinRefutes = (formula : Cnf) (clause : Clause) (cube : CubeValue) → IsDerived formula clause
     → Within clause cube → IsUnsatisfiableUnder formula cube
 
--- What a history leaves at an identity
+-- What a history leaves under an identity
 
 -- every clause that a legal history of a formula leaves, live or retired, is over the formula's
 -- variables and follows from the formula
@@ -38,7 +38,7 @@ ClausesFollow = (formula : Cnf) (layout : LayoutValue) (history : History) (id :
     (clause : Clause) → IsCnf formula → LegalFrom formula layout (opening formula) history
     → HasClause (state formula history id) clause → IsDerived formula clause
 
--- what a legal history leaves at a stream's own identity depends only on the calls of that stream
+-- what a legal history leaves under a stream's own identity depends only on that stream's calls
 abbrev pub OwnCallsDecide : Type 0
 OwnCallsDecide = (formula : Cnf) (layout : LayoutValue) (history : History) (s id : ℕ)
     → LegalFrom formula layout (opening formula) history → Owns layout s id

@@ -28,7 +28,7 @@ AnswersOwn view id reply =
     Owns view.caller.layout view.caller.stream id
     → Answers view.own (fetch view.caller.stream id reply)
 
--- for an identity of the formula, the reply is the formula's clause, live
+-- for an identity of the formula, the reply says that the formula's clause is live
 abbrev pub AnswersFormula : CallerView → ℕ → Reply → Type 0
 AnswersFormula view id reply =
     0 < id → id ≤ view.caller.layout.clauses → reply ≡ live (clause_at view.caller.formula id)

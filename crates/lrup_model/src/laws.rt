@@ -17,12 +17,12 @@ pub fn clauses_follow()
     ensures { ClausesFollow }
 {}
 
-/// What a legal history leaves at a stream's own identity depends only on the calls of that stream.
+/// What a legal history leaves under a stream's own identity depends only on the stream's calls.
 pub fn own_calls_decide()
     ensures { OwnCallsDecide }
 {}
 
-/// An entry goes from absent to live to retired, with the same clause.
+/// An entry goes from absent to live to retired, never back, and its clause never changes.
 pub fn entries_advance()
     ensures { EntriesAdvance }
 {}

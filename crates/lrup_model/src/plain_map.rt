@@ -211,7 +211,7 @@ fn keep_vacant(count: usize, entries: &mut Vec<Entry>)
     }
 }
 
-/// A stream's `ClauseMap`, which borrows the `PlainMap` until it is dropped.
+/// A stream's `ClauseMap`. Until it is dropped, it borrows the `PlainMap`.
 pub struct PlainDesk<'a> {
     map: &'a mut PlainMap,
     index: u32,

@@ -23,19 +23,19 @@ use std::process::Abort;
 use std::test::Fail;
 use test_support::{four_clauses, lit};
 
-/// Stops the test if two values differ. Since it is a function, the assertion is proved only once.
+/// Stops the test if two values differ. This is a function, so the assertion is proved only once.
 fn same<T: PartialEq + fmt::Debug + Drop>(rt: &impl Abort, value: T, wanted: T) {
     assert_eq!(rt; value, wanted);
 }
 
-/// Stops the test if this doesn't hold.
+/// Stops the test if the fact is false.
 fn holds(rt: &impl Abort, fact: bool)
     ensures { IsTrue fact }
 {
     assert!(rt; fact);
 }
 
-/// The numbers of literals, their variables and their codes.
+/// Literals: the number, the variable and the code of each.
 static LITERALS: [(i64, u32, u32); 6] = [
     (1, 1, 2),
     (-1, 1, 3),
@@ -75,7 +75,7 @@ const STREAMS: Option<LayoutFault> = Some(LayoutFault::BadStreamCount);
 
 const TOO_LONG: Option<LayoutFault> = Some(LayoutFault::RowTooLong);
 
-/// Six numbers, and why they give no layout, if they don't.
+/// Six numbers, and why they give no layout; `None` if they give one.
 static LAYOUTS: [([u64; 6], Option<LayoutFault>); 21] = [
     ([16_777_215, 4, 8, 1, 0, 0], None),
     ([16_777_216, 4, 8, 1, 0, 0], VARIABLES),
@@ -120,7 +120,7 @@ fn the_longest_row_has_its_words(rt: HostRuntime) -> Result<(), Fail> {
     Ok(())
 }
 
-/// The owners of the identities from 0 on.
+/// The owners of the identities, beginning with identity 0.
 static OWNERS: [Owner; 10] = [
     Owner::Outside,
     Owner::Formula,
@@ -217,8 +217,8 @@ fn literals(alloc: Global, values: &[i64]) -> Result<Vec<Lit>, Fail> {
     Ok(found)
 }
 
-/// The cube's largest variable, whether the cube makes the clause false, and whether it has the
-/// literal.
+/// The cube's largest variable, whether the cube makes the clause false, and whether the cube has
+/// the literal.
 fn ask_cube(
     alloc: Global,
     cube: &[i64],
@@ -455,7 +455,7 @@ fn sixty_four_streams_have_a_map(rt: HostRuntime) -> Result<(), Fail> {
     Ok(())
 }
 
-/// The worked row has 16 words, and its stream used one literal of its room.
+/// The worked row has 16 words, and the worked calls use room for one literal.
 fn worked_row_is_counted()
     ensures words { row_words one_line ≡ 16 }
     ensures spent { spent 1 calls ≡ 1 }
@@ -471,7 +471,7 @@ fn calls_are_legal()
     ensures outside { ¬ IsLegal four one_line (fetch 1 6 vacant ∷ []) }
 {}
 
-/// Hints are accepted if each before the last is unit and the last is a conflict.
+/// Hints are accepted if each hint before the last one is unit and the last one is a conflict.
 fn hints_are_judged()
     ensures shown { Accepts unit (first ∷ second ∷ []) }
     ensures empty { Accepts [] (unit ∷ third ∷ fourth ∷ []) }
@@ -483,7 +483,8 @@ fn hints_are_judged()
     ensures refuted { IsUnsatisfiable four }
 {}
 
-/// A clause is within a cube that has the complement of each of its literals, and within no other.
+/// A clause is within a cube exactly if the cube has the complement of each of the clause's
+/// literals.
 fn clauses_are_within_cubes()
     ensures unit { Within (pos 2 ∷ []) (negsuc 1 ∷ pos 1 ∷ []) }
     ensures itself { ¬ Within (pos 2 ∷ []) (pos 2 ∷ []) }

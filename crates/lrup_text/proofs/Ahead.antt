@@ -58,7 +58,8 @@ literal_digits p imports k n (c ∷ cs) h t =
     tracks_as (literal_digits (p ++ c ∷ []) imports (k + 1) n cs h.1 (tracks_more p _ _ c t (literal_digit imports k n c h.0)))
     (append_assoc p (c ∷ []) cs) (ap (λ x. InLiteral imports x n) (omega arith))
 
--- after a literal's first digit, the other digits and a space lead to the spot before the next one
+-- after a literal's first digit, its other digits and a space lead to the spot before the next
+-- literal
 tracks_rest : (p : List ℕ) (imports : Bool) (n c : ℕ) (cs : List ℕ) → AllByRecursion IsDigit cs → length cs < 18
     → Tracks (p ++ c ∷ []) (InLiteral imports 1 n) → Tracks (p ++ ((c ∷ cs) ++ space ∷ [])) (BeforeLiteral imports (n + 1))
 tracks_rest p imports n c cs h few t =

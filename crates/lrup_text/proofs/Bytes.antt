@@ -70,7 +70,7 @@ use Rattle.lrup_text.proofs.Steps.{
   end_blocks,
 }
 
--- what has been read ends at the spot of the state, which an equation gives
+-- if an equation gives the state, what has been read ends at that state's spot
 tracks_at : (m : PartialLine) (state : ParserState) → m.state ≡ state → IsPartialLine m → Tracks (pending_at state m) (spot_at state m)
 tracks_at m state e h = subst (λ p. Tracks (pending_at p m) (spot_at p m)) e h.tracks
 
@@ -112,7 +112,7 @@ module _ (m next : PartialLine) (state : ParserState) (at : m.state ≡ state) (
   pub pending_next : pending next ≡ pending_at state m ++ b ∷ [] → pending next ≡ pending m ++ b ∷ []
   pending_next is = is ∙ ap (λ p. pending_at p m ++ b ∷ []) (sym at)
 
--- a number after its first digit, and after one more
+-- a number after its first digit, and after one more digit
 pub first_digit : (b : ℕ) → 49 ≤ b → b ≤ 57 → FitsDigits (b - 48) 1
 first_digit b low high = record { low = omega arith; high = omega arith; few = omega arith }
 
@@ -139,7 +139,7 @@ positive n k h = (h.low, below_limit n k h)
 pub text_more : {X : Type 0} (f : X → List ℕ) (xs : List X) (x : X) → flat_map f (xs ++ x ∷ []) ≡ flat_map f xs ++ f x
 text_more f xs x = sym (flat_map_more f [] xs x)
 
--- a clause's text is its words, each followed by a space, then 0 and what comes after it
+-- a clause's text is its words, each followed by a space, then 0, then what comes after the 0
 pub words_end : {A : Type 0} (spell : A → List ℕ) (words : List A) (after : List ℕ)
     → words_text spell words ++ zero_digit ∷ after ≡ clause_text (map spell words) after
 unfolding words_text
@@ -154,7 +154,7 @@ pub list_words : {A : Type 0} (spell : A → List ℕ) (words : List A)
     → space ∷ (words_text spell words ++ zero_digit ∷ line_feed ∷ []) ≡ list_text (map spell words)
 list_words spell words = ap (λ t. space ∷ t) (words_end spell words (line_feed ∷ [])) ∙ sym (list_is_clause (map spell words))
 
--- a line's front and LF are its whole text
+-- a line's front, a space, the words of its list, 0 and LF are the line's whole text
 list_end : (deletes : Bool) (lead : ℕ) (lits : List ℤ) (ids : List ℕ)
     → ((list_front deletes lead lits ++ space ∷ numbers_text ids) ++ zero_digit ∷ []) ++ line_feed ∷ []
     ≡ line_text (line_of_parts false deletes lead lits ids)

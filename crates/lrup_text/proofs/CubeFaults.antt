@@ -26,7 +26,7 @@ nothing_read =
     let letter = tracks_more (49 ∷ space ∷ []) (BeforeLiteral false 0) AfterImport letter_i body body_import in
     tracks_more (49 ∷ space ∷ letter_i ∷ []) AfterImport (BeforeLiteral true 0) space letter import_space
 
--- A text is that of a cube exactly if it makes a line after `import_front`.
+-- A text is a cube's text exactly if `import_front` followed by the text is a line.
 
 module _ (limits : Limits) (lifted : AreLifted false limits) (bytes : List ℕ) where
   line_of_cube : IsCubeLine limits bytes → IsLine limits (import_front ++ bytes)
@@ -51,7 +51,7 @@ begins_cube : (limits : Limits) → AreLifted false limits → (bytes : List ℕ
     → ((rest : List ℕ) × IsLine limits ((import_front ++ bytes) ++ rest)) → BeginsOne IsCubeLine limits bytes
 begins_cube limits lifted bytes h = (h.0, cube_of_line limits lifted (bytes ++ h.0) h.1)
 
--- A byte that decides that the line has a fault decides it for the text, too.
+-- A byte that decides that the line has a fault decides that the text has this fault, too.
 
 module _ (read : List ℕ) (spot : Spot) (byte : ℕ) (after : List ℕ) (occurs : EndsAtSpot read spot) (bounded : IsBounded spot) where
   none : (fault : LineFault) (Shortest : List ℕ → Type 0) → IsRefused ((import_front ++ read) ++ byte ∷ []) fault
@@ -78,14 +78,15 @@ module _ (read : List ℕ) (spot : Spot) (byte : ℕ) (after : List ℕ) (occurs
       none lines.TooLong (BeginsOneLifted IsCubeLine) h
       (h.why.0, h.why.2, begins_cube h.why.0 h.why.2 (read ++ byte ∷ []) (h.why.1, h.why.3))
 
--- if a byte leads to the next spot, a fault of the rest after it is a fault of the rest with it
+-- if a byte leads to the next spot, a fault of the rest after the byte is also a fault of the byte
+-- and that rest
 pub rest_fault : (spot next : ℕ → Spot) (byte : ℕ) (after : List ℕ) (fault : CubeFault) → ((n : ℕ) → Moves (spot n) byte (next n))
     → IsRestFault next after fault → IsRestFault spot (byte ∷ after) fault
 rest_fault spot next byte after fault moves h read n few occurs =
     subst (λ t. IsTextFault IsCubeLine t fault) (append_assoc read (byte ∷ []) after)
     (h (read ++ byte ∷ []) n few (tracks_more (import_front ++ read) (spot n) (next n) byte occurs (moves n)))
 
--- a text that ends before its line does is misspelled
+-- a text that ends before the LF is misspelled
 pub too_short : (read : List ℕ) (spot : Spot) → EndsAtSpot read spot → IsBounded spot → IsTextFault IsCubeLine (read ++ []) Spelling
 too_short read spot occurs bounded =
     let line = import_front ++ read in

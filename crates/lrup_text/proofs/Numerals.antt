@@ -53,7 +53,7 @@ digits_word (d ∷ ds) h some few =
     let first : 0 < d = some in
     (omega arith, omega (arith, h.0), all_digits ds h.1, omega (arith, length-map ds (λ x. 48 + x)))
 
--- the decimal text of a number spells it
+-- the decimal text of a number spells the number
 pub number_word : (n : ℕ) → 0 < n → n < 10 ^ 18 → SpellsNumber 18 (decimal n)
 number_word n some few =
     subst (SpellsNumber 18) (sym (decimal-digits_of n some (omega arith)))

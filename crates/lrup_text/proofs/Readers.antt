@@ -23,7 +23,7 @@ use Rattle.lrup_text.proofs.TextLaws.{tracks_pending}
 use Rattle.lrup_text.proofs.Numerals.{number_word}
 use Rattle.lrup_text.proofs.Steps.{at_start}
 
--- what has been read may still become a line, and contains no whole one
+-- what has been read may still become a line, and contains no whole line
 pub reads_pending : (m : PartialLine) → IsPartialLine m → IsPending (pending m)
 reads_pending m h = tracks_pending (pending m) (spot_at m.state m) h.tracks (bounded m h)
 
@@ -43,7 +43,7 @@ start_reads m at room kept number = (
   ap (λ p. pending_at p m) at,
 )
 
--- a text with a byte in it isn't empty; so nothing of a line has been read exactly in state `Start`
+-- a text with a byte in it isn't empty; so only in state `Start` has nothing of a line been read
 some_byte : (xs : List ℕ) (y : ℕ) (ys : List ℕ) → xs ++ y ∷ ys ≡ [] → ⊥
 some_byte [] y ys e = cc
 some_byte (x ∷ xs) y ys e = cc

@@ -1,4 +1,4 @@
--- What a byte does at each spot: it leads to another spot, or nothing may follow it (and why).
+-- What a byte does at each spot: the spot to which it leads, or why no line can continue with it.
 use Rattle.std.proofs.Common.{◌≡◌, ℕ, ◌+◌, ◌<◌, ◌≤◌, ◌≢◌, ◌⊎◌, ◌↔◌, inl, inr, Bool, true, false, List, [], ◌∷◌, ◌++◌, refl, sym, ◌∙◌, subst}
 use Rattle.std.proofs.Common.{arith}
 use Rattle.std.proofs.lemmas.List.{append_assoc}

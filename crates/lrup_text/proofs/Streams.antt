@@ -271,7 +271,7 @@ one_fault rest fault other h = (
 
 -- A stream that comes in pieces is cut into the lines that were given.
 
--- a text that was refused begins with no line, even if more bytes follow
+-- a text that was refused doesn't begin with a line, even if more bytes follow
 pub refused_stays : RefusedStays
 refused_stays bytes more fault h line rest fits e =
     elim (shorter (line_text line) h.read rest more h.byte (sym e ∙ last_apart bytes h.read h.byte more h.is)) [
@@ -289,7 +289,7 @@ cut_longer stream lines read more cut last =
     subst (λ ls. Cut (stream ++ more) ls (read ++ more)) (sym (append-nil lines))
     (record { bytes = ap (λ t. t ++ more) cut.bytes ∙ append_assoc (flat_map line_text lines) read more; each = cut.each; last = last })
 
--- if more bytes complete a line, it is the next one, and the rest is empty
+-- if more bytes complete a line, that line is the next one, and the rest is empty
 cut_line : (stream : List ℕ) (lines : List StreamLine) (read more : List ℕ) (line : StreamLine) → Cut stream lines read
     → LineText line (read ++ more) → HasNoLine [] → Cut (stream ++ more) (lines ++ line ∷ []) []
 cut_line stream lines read more line cut text none = record {

@@ -1,5 +1,5 @@
--- Texts of lines: a text spells only one line, and the text of a line is no proper prefix of
--- another's.
+-- Texts of lines: a text spells only one line, and no line's text is a proper prefix of another
+-- line's text.
 use Rattle.std.proofs.Common.{◌≡◌, ◌≢◌, ℕ, suc, ℤ, pos, negsuc, ◌<◌, ◌≤◌, inl, inr, false, List, [], ◌∷◌, ◌++◌, length, map, refl, sym, ◌∙◌}
 use Rattle.std.proofs.Common.{ap, arith}
 use Rattle.std.specs.Fmt.{decimal, signed_decimal}
@@ -17,7 +17,7 @@ use Rattle.lrup_text.proofs.Numerals.{number_word}
 use Rattle.lrup_text.proofs.Rests.{same_head, same_tail, literal_of_number, list_rest, list_text-space, list_is_clause}
 use Rattle.lrup_text.proofs.Steps.{IsBounded, IsOpen, open_spot, standard_lifted, tracks_begins, at_start}
 
--- A word contains no space, so it ends before the first one.
+-- A word contains no space, so it ends before the first space.
 
 abbrev NoSpace : List ℕ → Type 0
 NoSpace word = AllByRecursion (λ c. c ≢ space) word

@@ -64,8 +64,8 @@ IsTextFault IsOne bytes TooLong = BeginsNone IsOne bytes (BeginsOneLifted IsOne)
 IsTextFault IsOne bytes Range = ⊥
 IsTextFault IsOne bytes Memory = ⊥
 
--- the first fault of the bytes, for a cube over the variables 1 to vars; memory runs out only if
--- the bytes have no fault
+-- the first fault of the bytes, for a cube over the variables 1 to vars; `Memory` is possible only
+-- if the bytes have no other fault
 abbrev pub IsCubeFault : ℕ → List ℕ → CubeFault → Type 0
 IsCubeFault vars bytes Spelling = IsTextFault IsCubeLine bytes Spelling
 IsCubeFault vars bytes TooLong = IsTextFault IsCubeLine bytes TooLong

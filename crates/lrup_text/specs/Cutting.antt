@@ -1,4 +1,4 @@
--- Whole streams: a reader's calls over pieces, and the lines that the stream is cut into.
+-- Whole streams: a reader's calls, each with a piece, and the lines into which the stream is cut.
 use Rattle.std.specs.Prelude.{◌≡◌, ℕ, List, [], ◌∷◌, ◌++◌, take, Ok, Err}
 use Rattle.lrup_text.specs.declared.reader.ReaderStatus.{ReaderStatus}
 use Rattle.lrup_text.specs.declared.reader.ReaderStatus.TheVariants.{Line, NeedMore, Fault}
@@ -24,7 +24,7 @@ abbrev pub used_bytes : List Call → List ℕ
 used_bytes [] = []
 used_bytes (call ∷ calls) = take call.used call.piece ++ used_bytes calls
 
--- the line that a call gave
+-- the line that a call gave, if any
 abbrev pub line_given : ReaderStatus → List StreamLine
 line_given (Line line) = line_of line ∷ []
 line_given NeedMore = []

@@ -1,5 +1,5 @@
 -- What a reader of lines gives for a piece of a stream, and its state afterwards. The state of a
--- reader is the part of a line that it has read, `Ok`, or the fault that it gave, `Err`.
+-- reader is `Ok` with the part of a line that it has read, or `Err` with the fault that it gave.
 use Rattle.std.specs.Prelude.{◌≡◌, ℕ, ◌<◌, ◌≤◌, List, [], ◌++◌, length, take, Result, Ok, Err, IfOk}
 use Rattle.lrup_text.specs.declared.LineFault.{LineFault}
 use Rattle.lrup_text.specs.declared.LineFault.TheVariants.{Truncated}
@@ -22,7 +22,7 @@ Feeds (Ok read) piece used NeedMore = used ≡ length piece
 Feeds (Ok read) piece used (Fault fault) =
     (0 < used) × (used ≤ length piece) × IsRefused (read ++ take used piece) fault
 
--- the reader's state afterwards
+-- the reader's state after it has given this result for the piece
 abbrev pub ReaderReaches : ReaderState → List ℕ → ReaderStatus → ReaderState → Type 0
 ReaderReaches old piece (Line line) new = (new ≡ Ok []) × IsPending []
 ReaderReaches old piece NeedMore new =

@@ -8,9 +8,9 @@ use Rattle.std.specs.List.{FoldsTo, concat}
 abbrev pub ReadsOf : Type 0 → Type 1
 ReadsOf S = S → ℕ → Option (List ℕ) → S → Type 0
 
--- The effect of a read on the bytes left, if they are known: it gives the next ones, at most as
--- many as it asks for, and they are no longer left. It gives none only at the end, or if it asks
--- for none. A failed read leaves all bytes.
+-- The effect of a read on the bytes left, if they are known: it gives the next bytes, at most as
+-- many as it asks for, and these are no longer left. It gives no bytes only at the end, or if it
+-- asks for none. A failed read leaves all bytes.
 abbrev pub GivesLeft : Option (List ℕ) → ℕ → Option (List ℕ) → Option (List ℕ) → Type 0
 GivesLeft before room None after = Keeps before after
 GivesLeft before room (Some piece) after = Consumes before after piece × (length piece ≤ room)

@@ -8,7 +8,7 @@ pub record Puts (before after : Option (List ℕ)) (held holds bytes : List ℕ)
   pub appends : Appends before after went
   pub is : held ++ bytes ≡ went ++ holds
 
--- A prefix of the bytes held before and the new ones was written.
+-- Of the bytes held before and the new ones after them, a prefix was written.
 pub record Breaks (before after : Option (List ℕ)) (held bytes : List ℕ) : Type 0 where
   pub went : List ℕ
   pub rest : List ℕ

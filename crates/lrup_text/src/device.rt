@@ -134,8 +134,7 @@ impl<R: io::Read> Source for Reading<R> {
     }
 }
 
-/// A sink that writes to an `io::Write`. A write that takes nothing from a slice that isn't empty
-/// is a fault.
+/// A sink that writes to an `io::Write`. A write that takes no byte of a nonempty slice is a fault.
 #[derive(Drop)]
 pub struct Writing<W> {
     inner: W,

@@ -170,7 +170,7 @@ pub trait Word: Copy {
         requires inside { start < length bytes.now }
         ensures { IfSome result (λ found. ReadsWord text fits bytes.now start found.0 found.1) };
 
-    /// Whether the word has a sign, and its magnitude.
+    /// Returns whether the word has a sign, and the word's magnitude.
     fn parts(self) -> (bool, u64)
         ensures { text self ≡ literal_front result.0 result.1 };
 }

@@ -89,7 +89,8 @@ pub fn a_cube_has_no_text_fault()
     ensures { TextHasNoFault }
 {}
 
-/// The printed texts of a cube are those that are read as its literals.
+/// Bytes are a text of a cube exactly if they are the text of literals, and the cube is the set of
+/// these literals.
 pub fn a_cube_text_is_read()
     ensures { CubeTextIsRead }
 {}

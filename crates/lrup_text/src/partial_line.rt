@@ -23,9 +23,9 @@ pub const MAX_IDENTITIES: usize = 65_536;
 /// What may come next in a line.
 #[derive(Clone, Copy)]
 pub enum ParserState {
-    /// The line itself.
+    /// The line's first digit.
     Start,
-    /// More of its first number.
+    /// More of the line's first number.
     Lead,
     /// The space after the `i` of an import.
     Import,
@@ -75,7 +75,7 @@ pub struct PartialLine {
     pub lead: u64,
     /// How many literals were read, at most 65,535.
     pub literal_count: usize,
-    /// How many hints were read, or identities of a deletion, at most 65,536.
+    /// How many hints, or identities of a deletion, were read, at most 65,536.
     pub identity_count: usize,
     /// Room for all literals that a line can have; those already read are at the front.
     pub literals: Vec<i64>,

@@ -20,8 +20,9 @@ const WORD: usize = 22;
 /// The size of the array in which a word is spelled. `WORD` bytes of it are copied.
 const PLACES: usize = 44;
 
-/// Spells a number with its sign, up to the index of the space, and returns the index of its first
-/// byte. Signs are unpredictable, so a minus is always written, and skipped if it isn't needed.
+/// Spells a number with its sign, so that the text ends where the space will be, and returns the
+/// index of the text's first byte. Signs are unpredictable, so a minus is always written, and
+/// skipped if it isn't needed.
 #[inline]
 fn spell(bytes: &mut [u8], negative: bool, magnitude: u64) -> usize
     requires { 21 ≤ length bytes.old }
@@ -34,7 +35,7 @@ fn spell(bytes: &mut [u8], negative: bool, magnitude: u64) -> usize
     if negative { digits - 1 } else { digits }
 }
 
-/// Bytes on their way to a sink. Up to 4,096 are held, so that many short texts make few writes.
+/// Bytes on their way to a sink. Up to 4,096 are held, so that many short texts need few writes.
 #[derive(Drop)]
 pub struct WriteBuffer {
     bytes: [u8; CAPACITY],

@@ -12,12 +12,12 @@ mod devices;
 mod reading;
 mod writing;
 
-/// Stops the test if two values differ. Since it is a function, the assertion is proved only once.
+/// Stops the test if two values differ. This is a function, so the assertion is proved only once.
 fn same<T: PartialEq + fmt::Debug + Drop>(rt: &impl Abort, value: T, wanted: T) {
     assert_eq!(rt; value, wanted);
 }
 
-/// Stops the test if this doesn't hold.
+/// Stops the test if the fact is false.
 fn holds(rt: &impl Abort, fact: bool)
     ensures { IsTrue fact }
 {

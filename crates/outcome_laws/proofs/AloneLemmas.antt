@@ -7,7 +7,7 @@ use Rattle.run_files.specs.Asked.{Text}
 use Rattle.command.specs.lemmas.OneRound.{is_over, never_on, was_alone, were_one}
 use Rattle.outcome_laws.specs.Laws.{OneRoundAlone}
 
--- if the words ask for no rounds, a command line of these words has none
+-- if the words don't ask for rounds, a command line of these words doesn't, either
 no_rounds : (words : List Text) (given : CommandLine) → IsCommandLineOf words given → ((folder : Text) → ¬ AskForRounds words folder)
     → (asked : Option Text) → rounds_of given.next ≡ asked → rounds_of given.next ≡ None
 no_rounds words given line never None is = is

@@ -1,4 +1,4 @@
--- A check of streams: each round of an outcome has a check.
+-- A check of streams, and the check that each round of an outcome has.
 use Rattle.std.proofs.Common.{◌≡◌, ◌⊎◌, ◌<◌, ◌≤◌, ◌-◌, ◌++◌, ℕ, eqb, ne_eqb, Bool, true, false, List, [], ◌∷◌, length, map, zero, suc, ◌+◌}
 use Rattle.std.proofs.Common.{Option, Some, refl, inl, inr, sym, ap, ap₂, subst, ◌∙◌, arith}
 use Rattle.std.specs.Prelude.{IsTrue, option_map, slice_get, ◌||◌, if◌then◌else◌}
@@ -51,7 +51,7 @@ pub record Check {R : Type 0} (reading : SourceView R) : Type 0 where
   pub verdict : Verdict
   pub checked : AreChecked reading serial formula run_params readers reports verdict
 
--- the check of a round whose streams were opened in this way
+-- the check of a round whose readers have what the files at these paths are known to hold
 abbrev pub check_of : {its : Effects} {given : CommandLine} {cube : CubeValue} (round : Round its given cube)
     (contents : Text → Option (List ℕ)) (paths : List Text) → map its.reading.left round.readers ≡ map contents paths → Check its.reading
 check_of {its} {given} {cube} round contents paths left = record {
@@ -93,7 +93,7 @@ of_some s P (step ∷ steps) all some = elim (cases_eq step.stream s) [
       (cond-false (eqb step.stream s) (step.line ∷ lines_by s steps) (lines_by s steps) (ne_eqb step.stream s other)) some)
 ]
 
--- a stream of a run has a report
+-- each stream of a run has a report
 pub has_report : (f : Cnf) (run_params : RunParamsValue) (observed : List InputObservation) (reports : List Report)
     (r : IsRun f run_params observed reports) (s : ℕ)
     → IsStream run_params.layout s → (report : Report) × IsOfStream reports s report
@@ -134,7 +134,7 @@ module _ {R : Type 0} (reading : SourceView R) (c : Check reading) where
       observed_as_many reading c.readers c.checked.lasts c.checked.ran.run.streams c.checked.ran.read
       ∙ sym (length-map c.readers reading.left) ∙ ap length c.left ∙ length-map c.paths c.contents
 
-  -- the reports are those of a run
+  -- a run has these reports
   abbrev pub run_of : IsRun c.formula c.run_params observed_of c.reports
   run_of = c.checked.ran.run
 
@@ -198,7 +198,7 @@ module _ {R : Type 0} (reading : SourceView R) (c : Check reading) where
         | inr cut ↦ inr (report.0, report.1, cut)
       ]
 
-  -- the files of a set of streams begin with the texts of their lines
+  -- the files of a set of streams begin with the texts of these streams' lines
   abbrev pub BeginSo : (ℕ → Bool) → List Step → Type 0
   BeginSo set steps = (t : ℕ) (path : Text) → IsTrue (set t) → IsOfStream c.paths t path
       → (more : List ℕ) × (c.contents path ≡ Some (flat_map line_text (lines_by t steps) ++ more))

@@ -19,11 +19,11 @@ use Rattle.outcome_laws.specs.Outcomes.{SayTheSame, layout_in}
 use Rattle.outcome_laws.specs.Laws.{SameBytesSayTheSame, OutcomesAgree}
 use Rattle.outcome_laws.proofs.CheckLemmas.{Check, check_of, run_of, observation_of_file, observed_of}
 
--- a text has one formula: the law of `dimacs`
+-- a text has only one formula: the law of `dimacs`
 abbrev pub OneFormula : Type 0
 OneFormula = (bytes : List ℕ) (one other : Cnf) → IsFormulaText bytes one → IsFormulaText bytes other → one ≡ other
 
--- reports that say the same except about clauses within a cube have the same line
+-- reports that differ at most about clauses within a cube are printed as the same line
 same_line : (s : ℕ) (report other : Report) → SayTheSame report other → stream_line s report ≡ stream_line s other
 same_line s report other same =
     ap (λ (n : ℕ). codes "c stream " ++ decimal s ++ codes ": " ++ decimal n ++ codes " added, " ++ decimal report.deleted
@@ -49,7 +49,7 @@ module _ (files : FilesView) (given : CommandLine) (cube : CubeValue) (round : R
   first_check = check_of round files.contents given.streams
       (were.rounds.opened.left ∙ ap (λ (t : Text → Option (List ℕ)). map t given.streams) were.known)
 
-  -- the round's formula is the one whose text FORMULA holds
+  -- the file FORMULA holds a text of the round's formula
   pub first_text : (text : List ℕ) → files.contents given.formula.now ≡ Some text → IsFormulaText text round.formula
   first_text text known = subst (IsFormulaText text) (sym were.rounds.formula_is)
       (is_text files given.formula.now were.formula were.next text known were.is_formula)

@@ -59,7 +59,7 @@ flat_so mark (b ∷ bytes) is = elim (cases_eq b mark) [
   | inr other ↦ (other, flat_so mark bytes (sym (cond-false (b == mark) false (is_flat mark bytes) (ne_eqb b mark other)) ∙ is))
 ]
 
--- a decimal digit has a code of at least 48, which is that of 0
+-- a decimal digit has a code of at least 48, the code of 0
 high_glyph : (n : ℕ) → 48 ≤ digit_glyph false (n % 10)
 high_glyph n =
     let small : n % 10 < 10 = omega arith in
@@ -137,14 +137,15 @@ flat_front s report =
     both (codes "c stream " ++ decimal s ++ codes ": " ++ decimal report.added ++ codes " added, " ++ decimal report.deleted
     ++ codes " deleted, ") (ending_text report.ending) last (flat_ending report.ending)
 
--- if two outputs that begin with lines of stream s are equal, so is what comes after these lines
+-- if two equal outputs each begin with a line for stream s, what comes after these lines is equal,
+-- too
 next_line : (s : ℕ) (report other : Report) (rest more : List ℕ)
     → stream_line s report ++ rest ≡ stream_line s other ++ more → rest ≡ more
 next_line s report other rest more same =
     cut_alike 10 (front_of s report) (front_of s other) rest more (flat_front s report) (flat_front s other)
     (sym (append_assoc (front_of s report) (10 ∷ []) rest) ∙ same ∙ append_assoc (front_of s other) (10 ∷ []) more)
 
--- what comes after each number of a stream's line
+-- what comes after each number in a stream's line
 abbrev after_deleted : Report → List ℕ → List ℕ
 after_deleted report rest = codes " deleted, " ++ (ending_text report.ending ++ (codes "\n" ++ rest))
 
@@ -156,7 +157,8 @@ opens_so : (s : ℕ) (report : Report) (rest : List ℕ)
     ≡ codes "c stream " ++ (decimal s ++ (codes ": " ++ (decimal report.added ++ after_added report rest)))
 opens_so s report rest = simp append_assoc
 
--- if two outputs that begin with lines of stream s are equal, so are the endings in these lines
+-- if two equal outputs each begin with a line for stream s, the endings in these lines are equal,
+-- too
 same_ending : (s : ℕ) (report other : Report) (rest more : List ℕ) → stream_line s report ++ rest ≡ stream_line s other ++ more
     → ending_text report.ending ++ (10 ∷ rest) ≡ ending_text other.ending ++ (10 ∷ more)
 same_ending s report other rest more same =
@@ -175,7 +177,7 @@ abbrev first_of : List ℕ → ℕ
 first_of [] = 0
 first_of (b ∷ bytes) = b
 
--- the ending of a stream that was cut off isn't printed like that of a bad line
+-- a stream that was cut off and a stream with a bad line have different printed endings
 never_bad : (report : Report) (ending : Ending) (line : ℕ) (fault : Fault) (rest more : List ℕ)
     → IsExcused CutOff report → ending ≡ endings.Bad line fault
     → ending_text report.ending ++ (10 ∷ rest) ≡ ending_text ending ++ (10 ∷ more) → ⊥
@@ -270,7 +272,7 @@ module _ (s count : ℕ) (out : SinkChange) (shows : ShowsBadLine s out) where
       let none : [] ≡ Shown = kept out.before out.after shows.before Shown untouched.written shows.was shows.is in
       omega (arith, some_shown, ap length none)
 
-  -- in round 1, no number is printed
+  -- in round 1, the round's number isn't printed
   printed_so : (number : ℕ) (reports : List Report) (verdict : Verdict) → number ≡ 1 → SinkTook out (last_text number reports verdict)
       → SinkTook out (report_text reports verdict)
   printed_so number reports verdict is took = subst (λ (n : ℕ). SinkTook out (last_text n reports verdict)) is took

@@ -46,7 +46,7 @@ use Rattle.outcome_laws.proofs.StreamLemmas.{stopped_is_open}
 
 -- Faults
 
--- a fault of a later round doesn't have these causes
+-- if a later round is provided for, its fault is the machine's
 module _ (its : Effects) (given : CommandLine) (cube : CubeValue) (folder : Text) (number : ℕ) (old : Sizes) (formula : Cnf)
     (before after : its.State) where
   abbrev Read : Sizes → its.State → Type 0
@@ -121,7 +121,7 @@ carried_cnf round next on =
     subst IsCnf (sym (at.next_is next refl)) (text_cnf at.bytes at.checkpoint.formula at.checkpoint.text)
 
 module _ (files : FilesView) (given : CommandLine) (cube : CubeValue) where
-  -- what holds for a round and those before it also holds for the previous round
+  -- `WereRounds` still holds without the last round
   pub before_them : (round b : Round files.its given cube) (more : List (Round files.its given cube))
       → WereRounds files given cube round (b ∷ more) → WereRounds files given cube b more
   before_them round b more were = record {
@@ -142,7 +142,7 @@ module _ (files : FilesView) (given : CommandLine) (cube : CubeValue) where
 
 -- What a round left.
 module _ (its : Effects) (Saves : Result (Option Cnf) SaveFault → its.Output → its.Output → Type 0) where
-  -- with 'unsatisfiable', no save can fail
+  -- if the verdict is 'unsatisfiable', no save can fail
   all_saved : (verdict : Verdict) (before : its.State) (path : Option Text) (fault : SaveFault) (next : Option Cnf)
       (after : its.State) → verdict ≡ Unsatisfiable → ¬ LeavesAtPath its Saves verdict before path (Some fault) next after
   all_saved UnsatisfiableUnder before path fault next after is leaves = let no : UnsatisfiableUnder ≡ Unsatisfiable = is in cc
@@ -252,7 +252,8 @@ module _ (Mode : Bool → Type 0) (Before Last : RoundAsk) (Why : Reason) (at : 
           asked = (provided.ready round.sizes comes.sized comes.sizes).2;
         }
 
-    -- the round comes before the last and its streams ended, or it refutes, or a stream was stopped
+    -- the round comes before the last one and its streams ended, or its verdict is 'unsatisfiable',
+    -- or a stream was stopped
     fate : (round : Round files.its given cube) (before : List (Round files.its given cube))
         → WereRounds files given cube round before → round.number ≤ last
         → ((round.number < last) × HaveEnded round.reports) ⊎ ((round.verdict ≡ Unsatisfiable) ⊎ Stops round)
@@ -298,7 +299,7 @@ module _ (Mode : Bool → Type 0) (Before Last : RoundAsk) (Why : Reason) (at : 
         let few = few_rounds round before were in
         ask.later given cube round before next line were (goes_below round before were few next on) on
 
-    -- if a verdict is about assumed literals, the words ask for some
+    -- if a verdict is 'unsatisfiable under assumptions', the words ask for assumed literals
     under_some : (round : Round files.its given cube) (before : List (Round files.its given cube))
         → (were : WereRounds files given cube round before) → (path : Option Text) → assumed_at given ≡ path
         → AreAssumed (WasReadIn files) were.formula.vars were.next path cube were.later
@@ -350,8 +351,8 @@ module _ (Mode : Bool → Type 0) (Before Last : RoundAsk) (Why : Reason) (at : 
     few_of : (ends : EndsWithReport files words after out err status) → ends.last.number ≤ last
     few_of ends = few_rounds ends.given ends.command_line ends.cube ends.last ends.before ends.were
 
-    -- if the report doesn't say 'unsatisfiable', its round comes before the last and the streams
-    -- ended, or one was stopped
+    -- if the report doesn't say 'unsatisfiable', its round comes before the last one and the
+    -- streams ended, or a stream was stopped
     streams_of : (ends : EndsWithReport files words after out err status) → ¬ (ends.last.verdict ≡ Unsatisfiable)
         → ((ends.last.number < last) × HaveEnded ends.last.reports)
         ⊎ HasStopped Why (at ends.last.reports).0 (at ends.last.reports).1 last ends.last
@@ -362,7 +363,7 @@ module _ (Mode : Bool → Type 0) (Before Last : RoundAsk) (Why : Reason) (at : 
           | inr (inr lost) ↦ inr lost
         ]
 
-    -- the report says 'unsatisfiable', or falls short of it
+    -- the report says 'unsatisfiable' and the status is 0, or the report falls short of that
     short_so : (ends : EndsWithReport files words after out err status)
         → (unsaved : Option SaveFault) → ends.last.unsaved ≡ unsaved → (verdict : Verdict) → ends.last.verdict ≡ verdict
         → ((ends.last.verdict ≡ Unsatisfiable) × (0 ≡ report_status false unsaved verdict))
@@ -395,7 +396,7 @@ module _ (Mode : Bool → Type 0) (Before Last : RoundAsk) (Why : Reason) (at : 
           | inr falls ↦ inr (short ends written (subst (Short ends) (sym is) falls))
         ]
 
-    -- if there is no report, this is because of a fault of the machine
+    -- if there is no report, the cause is a fault of the machine
     failed_so : (ends : EndsWithFault files words after out err status) → IsCauseIn files words ends.number ends.fault after → Goal []
     failed_so ends (inl first) =
         let machine = of_machine one_formula no_fault alike files words ask.asks after ends.fault first.1 in
@@ -409,7 +410,7 @@ module _ (Mode : Bool → Type 0) (Before Last : RoundAsk) (Why : Reason) (at : 
         cause.0 later.last.after after Before Last last provided ends.fault cause.2 in
         inr (no_report ends (omega (arith, later.number_is, below)) (subst (λ (n : ℕ). (n ≡ 5) ⊎ (n ≡ 6)) (sym ends.status_is) machine))
 
-    -- the reports of the last round that has reports
+    -- the last round's reports, or an empty list if a fault ended the run
     abbrev pub reports_of : ProgramEnds files words after out err status → List Report
     reports_of (inl ends) = ends.last.reports
     reports_of (inr ends) = []

@@ -73,7 +73,7 @@ RefutesSo Mode Last Why at = (R : Type 0) (reading : SourceView R) (c : Check re
     → Last c.formula c.run_params.layout c.contents c.paths
     → (c.verdict ≡ Unsatisfiable) ⊎ Lost Why c.run_params c.reports (at c.reports).0 (at c.reports).1
 
--- If each stream has ended or P holds for it, all have ended or P holds for one.
+-- If each stream has ended or satisfies P, all have ended or some stream satisfies P.
 all_ended : (P : ℕ → Report → Type 0) (reports : List Report)
     → ((k : ℕ) (report : Report) → slice_get reports k ≡ Some report → (report.ending ≡ endings.Ended) ⊎ P k report)
     → HaveEnded reports ⊎ ((k : ℕ) × (report : Report) × (slice_get reports k ≡ Some report) × P k report)
@@ -100,7 +100,7 @@ all_streams P reports each =
       | inr some ↦ inr (some.0 + 1, some.1, place reports some.0 some.1 some.2, some.3)
     ]
 
--- if all streams have ended, so has the one with this report
+-- if all streams have ended, so has the stream with this report
 pub ended_at : (reports : List Report) (k : ℕ) (report : Report) → slice_get reports k ≡ Some report → HaveEnded reports
     → report.ending ≡ endings.Ended
 ended_at [] k report at all = absurd (cc)
@@ -158,7 +158,7 @@ module _ {R : Type 0} (reading : SourceView R) (c : Check reading) (cnf : IsCnf 
             ]
       ]
 
--- if each stream has ended or was stopped, all have ended or one was stopped
+-- if each stream has ended or was stopped, all have ended or some stream was stopped
 some_lost : (Why : Reason) (run_params : RunParamsValue) (reports : List Report)
     → ((s : ℕ) (report : Report) → IsOfStream reports s report
     → (report.ending ≡ endings.Ended) ⊎ IsExcused (Why (stream_params run_params s)) report)
@@ -199,7 +199,7 @@ ends_round_robin round_robin R reading c on_one cnf valid = elim (some_cut c.rep
       (valid_round_robin reading c cnf round_robin on_one valid.0.0 valid.0.1 valid.1 valid.0.2 fine s report says)))
 ]
 
--- the stream that was cut off and the line, if there is one
+-- a stream that was cut off and its line's number, or zeros if no stream was cut off
 abbrev cut_lines : (reports : List Report) → SomeCut reports ⊎ NoneExcused (λ s. true) CutOff reports → Lines
 cut_lines reports (inl cut) = (cut.0, cut.3.0)
 cut_lines reports (inr fine) = (0, 0)

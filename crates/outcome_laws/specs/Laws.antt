@@ -32,10 +32,11 @@ NoCubeJudgesAlike = (c : StreamParams) (bytes : List ℕ) (end : StreamEnd) (blo
     → JudgesBlocks c bytes end blocks report
     → JudgesBlocks (bare_params c) bytes end blocks (bare_report report)
 
--- In two runs of one formula, with the same layout and tries, a stream that cites within itself has
--- reports that say the same except about clauses within a cube, if its readers have the same bytes
--- at the start, and neither report says that memory ran out or a read failed. The cubes, the other
--- streams and the use of threads make no difference.
+-- In two runs of one formula, with the same layout and tries, suppose that a stream's readers have
+-- the same bytes at the start, and that the stream cites only its own clauses and the formula's.
+-- Then its two reports say the same except about clauses within a cube, unless one of them says
+-- that memory ran out or a read failed. The cubes, the other streams and the use of threads make no
+-- difference.
 abbrev pub SameBytesSayTheSame : Type 0
 SameBytesSayTheSame =
     (f : Cnf) (run_params other_run_params : RunParamsValue) (s : ℕ) (whole : List ℕ)
@@ -59,11 +60,11 @@ SameWordsAskAlike = (words : List Text) (given other : CommandLine) → IsComman
     → (other.tries ≡ given.tries) × (sizes_of other ≡ sizes_of given)
     × (other.streams ≡ given.streams) × (other.formula.now ≡ given.formula.now)
 
--- In round 1 of two runs of the program, with the same tries and sizes, a stream that cites within
--- itself has the same line if the files of the formula and of the stream are known to have the same
--- bytes, unless a report of the stream says that memory ran out or a read failed. The other
--- streams' files, the assumed literals and the use of threads make no difference. A run without
--- rounds consists of round 1.
+-- In round 1 of two runs of the program, with the same tries and sizes, a stream that cites only
+-- its own clauses and the formula's has the same report line if the files of the formula and of the
+-- stream are known to have the same bytes, unless a report of the stream says that memory ran out
+-- or a read failed. The other streams' files, the assumed literals and the use of threads make no
+-- difference. A run without rounds consists of round 1.
 abbrev pub OutcomesAgree : FilesView → FilesView → Type 0
 OutcomesAgree files others =
     (given other_given : CommandLine) (cube other_cube : CubeValue)

@@ -59,8 +59,9 @@ saved_in {its} {given} round =
     round.checked.ran.run.history round.checked.dropped round.verdict round.opened
     (created_path given.next round.number) round.unsaved round.next round.after round.leaves
 
--- Runs over files as they were before each run: the first run read these bytes, each later one read
--- what the last round of the previous run saved, and `IsLast` holds for the last run.
+-- Runs in sequence, each with the files as they were before it: the first run read these bytes,
+-- each later one read what the last round of the previous run saved, and `IsLast` holds for the
+-- last run.
 abbrev pub AreRuns : {F : Type 0} → (F → FilesView) → (F → List ℕ → Type 0) → List ℕ
     → List (List ℕ) → Type 0
 AreRuns {F = F} view IsLast bytes [] = (first : F) × IsLast first bytes

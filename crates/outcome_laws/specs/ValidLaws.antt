@@ -35,10 +35,10 @@ ValidOrdersSay files last = (words : List Text) (s count : ℕ) (after : files.i
     → ProgramEnds files words after out err status
     → (status ≡ 0) ⊎ InconclusiveBecause files words Lacking s count last after out err status
 
--- If the words ask for one thread, lines of all streams have in each round a valid order that takes
--- the streams in turn, and some line of stream s adds the empty clause in the last one, the program
--- ends as if all streams were valid alone; but any stream may be the one in which memory ran out or
--- a read failed, in the last round as well.
+-- Suppose that the words ask for one thread, that in each round lines of all streams have a valid
+-- order that takes the streams in turn, and that in the last round some line of stream s adds the
+-- empty clause. Then the program ends as if each stream were valid on its own; but any stream may
+-- be the one in which memory ran out or a read failed, in the last round as well.
 abbrev pub ValidTurnsSay : FilesView → (last : ℕ) → Type 0
 ValidTurnsSay files last = (words : List Text) (s : ℕ) (after : files.its.State)
     (out err : SinkChange) (status : ℕ)

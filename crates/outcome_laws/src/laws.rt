@@ -23,10 +23,10 @@ pub fn no_cube_judges_alike()
     ensures { NoCubeJudgesAlike }
 {}
 
-/// Take two runs of one formula with the same layout and tries, and a stream that cites within
-/// itself. If its readers have the same bytes left at first, and neither report says that memory
-/// ran out or a read failed, the two reports are the same except about clauses within a cube. The
-/// cubes, the other streams and the use of threads make no difference.
+/// Take two runs of one formula with the same layout and tries, and a stream that cites only its
+/// own clauses and the formula's. If its readers have the same bytes at the start, and neither
+/// report says that memory ran out or a read failed, the two reports are the same except about
+/// clauses within a cube. The cubes, the other streams and the use of threads make no difference.
 pub fn same_bytes_say_the_same()
     ensures { SameBytesSayTheSame }
 {
@@ -46,10 +46,10 @@ pub fn one_round_alone<F: Machine>(files: &F)
     ensures { OneRoundAlone (⟦<F as Viewed>⟧.view files.now) }
 {}
 
-/// Take two runs of the program with the same tries and sizes, and a stream that cites within
-/// itself. If the files of the formula and of the stream are known to have the same bytes before
-/// both runs, the stream has the same line in round 1 of both, unless a report of the stream says
-/// that memory ran out or a read failed. A run without rounds consists of round 1.
+/// Take two runs of the program with the same tries and sizes, and a stream that cites only its own
+/// clauses and the formula's. If the files of the formula and of the stream are known to have the
+/// same bytes before both runs, the stream has the same line in round 1 of both, unless a report of
+/// the stream says that memory ran out or a read failed. A run without rounds consists of round 1.
 pub fn outcomes_agree<F: Machine, G: Machine>(files: &F, others: &G)
     ensures { OutcomesAgree (⟦<F as Viewed>⟧.view files.now) (⟦<G as Viewed>⟧.view others.now) }
 {
@@ -57,9 +57,8 @@ pub fn outcomes_agree<F: Machine, G: Machine>(files: &F, others: &G)
     same_bytes_say_the_same();
 }
 
-/// With status 0 the words give a whole command line, and the bytes read from its FORMULA are a
-/// text of a formula that no assignment satisfies. This follows from the clause `ends` of
-/// `command`.
+/// With status 0, the words give a command line, and the bytes read from its FORMULA are a text of
+/// a formula that no assignment satisfies. This follows from the clause `ends` of `command`.
 pub fn status_0_has_a_command_line<F: Machine>(files: &F)
     ensures { Status0HasACommandLine (⟦<F as Viewed>⟧.view files.now) }
 {
@@ -85,10 +84,10 @@ pub fn serial_outcomes_agree<F: Machine, G: Machine>(files: &F, others: &G)
 /// `--rounds`, round 1 is the last.) Then the program ends with status 0; with 7, because the
 /// report couldn't be written; with 5 or 6, for a fault of the machine; with 9, because a
 /// checkpoint or the next round's formula couldn't be saved; with 8, and then there are assumed
-/// literals, and the report says 'unsatisfiable under assumptions'; or with 3. With 3, and in the
-/// last round also with 8 and 9, the report says that memory ran out or a read failed, in the
-/// refutation's lines or in some stream of an earlier round. This follows from the clause `ends` of
-/// `command`.
+/// literals, and the report says 'unsatisfiable under assumptions'; or with 3. With 3, and with 8
+/// or 9 if the run ended in the last round, the report says that memory ran out or a read failed,
+/// in the refutation's lines or in some stream of an earlier round. This follows from the clause
+/// `ends` of `command`.
 pub fn valid_rounds_say<F: Machine>(files: &F)
     ensures { (last : ℕ) → ValidRoundsSay (⟦<F as Viewed>⟧.view files.now) last }
 {
@@ -102,9 +101,10 @@ pub fn valid_rounds_say<F: Machine>(files: &F)
 }
 
 /// Suppose that in each round before the last one, lines of all streams have a valid order, and
-/// that in the last round a stream of such an order adds the empty clause. Then the program ends as
-/// `valid_rounds_say` says; but a stream may also have stopped because one of these lines cites
-/// another stream's clause that wasn't there yet or was no longer there.
+/// that in the last round, lines of some streams have a valid order in which one of them adds the
+/// empty clause. Then the program ends as `valid_rounds_say` says; but a stream may also have
+/// stopped because one of these lines cites another stream's clause that wasn't there yet or was no
+/// longer there.
 pub fn valid_orders_say<F: Machine>(files: &F)
     ensures { (last : ℕ) → ValidOrdersSay (⟦<F as Viewed>⟧.view files.now) last }
 {
@@ -185,8 +185,9 @@ pub fn outcomes_refute<F: Machine>(_files: &F)
     files_refute();
 }
 
-/// If the last run of such a sequence ends with status 8 instead, no assignment satisfies the first
-/// run's formula together with the literals that the last run assumed.
+/// If several runs follow one another as in `outcomes_refute`, and the last run ends with status 8,
+/// no assignment satisfies the first run's formula together with the literals that the last run
+/// assumed.
 pub fn outcomes_refute_under<F: Machine>(_files: &F)
     ensures { OutcomesRefuteUnder ⟦<F as Viewed>⟧.view }
 {

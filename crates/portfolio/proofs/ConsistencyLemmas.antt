@@ -54,7 +54,7 @@ opened_from store f s (p ∷ ps) each =
           (λ k q at. let next : s + suc k ≡ s + 1 + k = omega arith in subst (λ (n : ℕ). IsOpened store f n q) next (each (suc k) q at)),
     )
 
--- each stream's pass is at the stream's index
+-- the passes are opened if, at each stream's index, that stream's pass is
 are_opened : (store : StoreValue) (f : Cnf) (p : LayoutValue) (ps : List PassValue) → length ps ≡ p.streams
     → ((s : ℕ) (pass : PassValue) → IsStream p s → slice_get ps (s - 1) ≡ Some pass → IsOpened store f s pass) → AreOpened store f 1 ps
 are_opened store f p ps count each = opened_from store f 1 ps (λ k pass at.
@@ -67,14 +67,14 @@ are_opened store f p ps count each = opened_from store f 1 ps (λ k pass at.
 
 -- the effect of a pass's calls
 
--- a pass from its opening to the meeting: it is the pass of stream s, and its calls are those that
--- were made through it
+-- a pass from its opening to the meeting: it belongs to stream s, and `es` are the calls that were
+-- made through it
 pub record Ends (f : Cnf) (p : LayoutValue) (s : ℕ) (es : History) (v : View) : Type 0 where
   pub caller : v.caller ≡ record { formula = f; layout = p; stream = s }
   pub mine : v.mine ≡ es
   pub fair : IsFair v
 
--- the pass has seen a legal history, in which its stream's calls are those made through the pass
+-- in the history that a pass has seen, which is legal, its stream's events are its calls
 ends_own : (f : Cnf) (p : LayoutValue) (s : ℕ) (es h : History) (v : View) → Ends f p s es v → v.seen ≡ h → v.mine ≡ own h s
 ends_own f p s es h v e saw = sym e.fair.mine ∙ ap₂ (λ (g : History) (n : ℕ). own g n) saw (ap (λ (c : Caller). c.stream) e.caller)
 
@@ -86,7 +86,7 @@ first_saw : (h : History) (vs : List View) → AllSaw h vs → 0 < length vs →
 first_saw h [] saw some = absurd (omega arith)
 first_saw h (v ∷ vs) saw some = sym saw.0
 
--- a pass without calls has the whole room
+-- a pass without calls has all its room left
 opened_room : (f : Cnf) (p : LayoutValue) (store : StoreValue) (s : ℕ) (q : PassValue) → store.layout ≡ p → IsOpened store f s q
     → p.room ≡ (pass_caller_view q.view).room
 opened_room f p store s q same opened =
@@ -100,7 +100,8 @@ abbrev pub AreJudgedBy : RunParamsValue → ℕ → List Stream → List View �
 AreJudgedBy run_params s streams vs reports =
     EachOfThree (λ t stream v report. IsJudgedBy (stream_params run_params t) stream v.mine report) s streams vs reports
 
--- if the calls are the streams' own events in the one history, the streams are judged by these
+-- if the passes' calls are the streams' own events in the one history, that history judges the
+-- streams
 judged_in : (run_params : RunParamsValue) (h : History) (s : ℕ) (streams : List Stream) (vs : List View) (reports : List Report)
     → AreJudgedBy run_params s streams vs reports → ((k : ℕ) (v : View) → slice_get vs k ≡ Some v → v.mine ≡ own h (s + k))
     → AreJudgedIn run_params (λ t. true) h s streams reports
@@ -472,7 +473,7 @@ module _ {S : Type 0} (view : SourceView S) where
       )
 
   -- the reader was read to its end, or to the read that failed, and a stream matches what is
-  -- observed of it; this is true of each reader whose mark was missed
+  -- observed of the reader. This holds for each reader whose mark was missed.
   abbrev WasReadOut : S → Type 0
   WasReadOut reader = (last : S) × (its : Stream) × IsSome its.end × IsStreamOf view reader last its
 

@@ -1,4 +1,4 @@
--- What a stream dropped, as its threads found it.
+-- What a stream dropped, derived from what its threads found.
 use Rattle.std.proofs.Common.{◌≡◌, ℕ, List, [], Option, Some, None, refl, sym, subst}
 use Rattle.lrup_model.specs.Event.{History}
 use Rattle.lrup_text.specs.declared.device.StreamEnd.{StreamEnd}
@@ -23,7 +23,7 @@ checker_drops c v room bytes blocks end (Some ending) is reaches full =
     stopped_drops ending c bytes blocks v.tally v.dropped
     (subst (λ (e : Option Ending). ReachesState c bytes blocks (state_by v room e)) is reaches).1 full
 
--- what a stream dropped, from what its threads found
+-- a stream dropped what its threads' result says
 pub job_drops : (v : CheckerValue) (room : ℕ) (bytes : List ℕ) (blocks : List History) (report : Report) (dropped : DroppedIdsValue)
     → ReachesState v.params [] [] (checker_state v room) → DropsBy v room bytes blocks dropped report
     → HasDropped v.params bytes blocks report dropped

@@ -41,7 +41,7 @@ module _ {S : Type 0} (view : SourceView S) where
   not_layout_of (thread_faults.Spawn n) result bad spawn ring is = let this = spawn n refl in cc
   not_layout_of (thread_faults.Ring found) result bad spawn ring is = let this = ring found refl in cc
 
-  -- the stream whose thread couldn't be started is one of the layout
+  -- the stream whose thread couldn't be started is a stream of the layout
   pub spawn_within : {f : Cnf} {run_params : RunParamsValue} {store : StoreValue} {firsts : List S} {js : List (StreamJobsValue S)}
       → IsBegun f run_params store firsts js → (fault : ThreadFault S) (result : RunFault) (stream : ℕ) → IsFaultOf view js fault
       → ((stream : ℕ) → fault ≡ thread_faults.Spawn stream → result ≡ Spawn stream)
@@ -53,7 +53,7 @@ module _ {S : Type 0} (view : SourceView S) where
       stream_within view begun stream (subst (λ s. (0 < s) × (s ≤ length js)) here so)
   spawn_within begun (thread_faults.Ring found) result stream so spawn ring is = absurd (let this = ring found refl in cc)
 
-  -- the passes of the streams before the one whose ring stopped the run belong to the store
+  -- if a stream's ring stopped the run, the passes of the earlier streams belong to the store
   pub before_of : {f : Cnf} {run_params : RunParamsValue} {store : StoreValue} {firsts : List S} {js : List (StreamJobsValue S)}
       → IsBegun f run_params store firsts js → (fault : ThreadFault S) → IsFaultOf view js fault → (found : StreamResultsValue S)
       → fault ≡ thread_faults.Ring found → AreOf store found.passes

@@ -1,4 +1,4 @@
--- A run on one thread, from what its streams left.
+-- A run on one thread, derived from what its streams left.
 use Rattle.std.proofs.Common.{◌≡◌, ◌∙◌, true, List, refl, sym, ap}
 use Rattle.lrup_model.specs.Formula.{Cnf}
 use Rattle.lrup_model.specs.Plain.{Plain, plain_state}
@@ -13,7 +13,7 @@ use Rattle.stream_turns.specs.Results.{AreCheckedInTurn}
 use Rattle.run_laws.specs.lemmas.OwnLemmas.{ordered_judged, own-blocks}
 use Rattle.run_outcome.specs.Histories.{IsRunOf}
 
--- the run's history is that of the order of lines
+-- streams that were checked in turn make a run, and the map holds what its history leaves
 pub run_in_turn : {S : Type 0} (view : SourceView S) (f : Cnf) (run_params : RunParamsValue) (firsts lasts : List S)
     (reports : List Report) (dropped : List DroppedIdsValue) (m : Plain)
     → AreCheckedInTurn view f run_params firsts lasts reports dropped m

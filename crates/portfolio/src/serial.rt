@@ -23,10 +23,10 @@ use stream_turns::{StreamResults, check_all};
 
 /// Checks all streams of a formula on this thread, round-robin from stream 1 on: in its turn a
 /// stream is read until one line has been taken or the stream is finished. The outcome has a report
-/// for each stream, and the verdict: whether a stream added the empty clause, or one that the cube
-/// of assumed literals falsifies. Each reader has a gate. The code allocates all memory before the
-/// first read, except for the identities that streams drop. The call blocks while a reader does.
-/// Its only faults are `Layout` and `Memory`.
+/// for each stream, and the verdict: whether a stream added the empty clause, or a clause that the
+/// cube of assumed literals falsifies. Each reader has a gate. The code allocates all memory before
+/// the first read, except for the identities that streams drop. The call blocks while a reader
+/// does. Its only faults are `Layout` and `Memory`.
 pub fn run_serial<W: Wait, R: Source + Drop, G: Gate + Drop>(
     wait: &W,
     alloc: Global,
@@ -44,9 +44,10 @@ pub fn run_serial<W: Wait, R: Source + Drop, G: Gate + Drop>(
         ↔ IsFault (layout_of options formula.now (length readers.items)) fault }
     ensures no_threads { (stream : ℕ) → (result ≢ Err (RunFault.Spawn stream))
         × (result ≢ Err (RunFault.Ring stream)) }
-    // The outcome is that of a run on one thread (`true`) over the readers' bytes and what their
-    // reads gave. The run's history is that of an order of lines that takes one line of each stream
-    // in turn. The map has what the history leaves. The run's groups of streams are isolated.
+    // There is a run on one thread (`true`) with this outcome, over the readers' bytes and what
+    // their reads gave. Its history is the history of an order of lines that takes one line of each
+    // stream in turn. The map has what the history leaves. The run's groups of streams are
+    // isolated.
     ensures ordered { let run_params = run_params_of options cube.now formula.now
         (length readers.items) in
         IfOk result (λ outcome. (ran : IsRunOf true (readers_view R.Source) formula.now run_params

@@ -35,8 +35,8 @@ use stream_threads::{
 /// Checks all streams of a formula, with two threads for each: one reads the stream's bytes to the
 /// end, and the other checks them against the store of clauses, which all streams share. The
 /// outcome has a report for each stream, and the verdict: whether a stream added the empty clause,
-/// or one that the cube of assumed literals falsifies. Element k of `readers`, of `gates` and of
-/// the outcome's lists belongs to stream k + 1.
+/// or a clause that the cube of assumed literals falsifies. Element k of `readers`, of `gates` and
+/// of the outcome's lists belongs to stream k + 1.
 ///
 /// All lists and buffers are made before the first thread starts. After that, only two things
 /// allocate: starting a thread, which fails without memory (`RunFault::Spawn`), and keeping dropped
@@ -71,8 +71,8 @@ pub fn run<T: Threads + Wait + Sync, R: Source + Send + Drop, G: Gate + Send + D
     ensures history { IfOk result (λ outcome. let passes = views outcome.passes.items in
         HaveOneHistory formula.now (layout_of options formula.now (length readers.items))
         (seen_by passes) passes) }
-    // The outcome is that of a run by that history, with threads (`false`), over the readers' bytes
-    // and what their reads gave. The run's groups of streams are isolated, and its lines are
+    // There is a run with threads (`false`), with that history and this outcome, over the readers'
+    // bytes and what their reads gave. The run's groups of streams are isolated, and its lines are
     // serializable.
     ensures reports { let run_params = run_params_of options cube.now formula.now
         (length readers.items) in
@@ -167,8 +167,8 @@ fn outcome_of<R: Source + Drop>(store: Store, found: StreamResults<R>) -> Outcom
     }
 }
 
-/// Turns a fault of the threads into the run's fault. For `Ring`, the passes of all streams before
-/// that ring's meet.
+/// Turns a fault of the threads into the run's fault. For `Ring`, it lets the passes of all earlier
+/// streams meet.
 fn fault_of<R: Source + Drop>(store: Store, fault: ThreadFault<R>) -> RunFault
     requires store { (found : StreamResultsValue R) → fault ≡ ThreadFault.Ring found
         → AreOf store found.passes }

@@ -74,7 +74,7 @@ of_two Holds options cube f count same none formula two holds =
     (subst (λ k. Holds f (run_params_of usual k f count)) none
     (subst (λ o. Holds f (run_params_of o cube f count)) same holds)))
 
--- what a run promises of its reports, whatever its history
+-- what a run promises about its reports, whatever its history
 abbrev pub IsIsolated : {S : Type 0} → SourceView S → List S → List S → List Report → Cnf → RunParamsValue → Type 0
 IsIsolated {S} view firsts lasts reports f run_params =
     (run : IsRun f run_params (observations view firsts lasts) reports) × AreIsolated run × AreRead S view.reads firsts lasts run.streams
@@ -94,7 +94,8 @@ pub two_ordered : (known : List InputObservation) (reports : List Report) (h : H
     → HasOrdered known reports h f (run_params_of options cube f count) → HasOrdered known reports h four two_terms
 two_ordered known reports h options cube f count = of_two (HasOrdered known reports h) options cube f count
 
--- What a run promises implies that stream 1's report is the only one that it may have on its own.
+-- What a run promises implies that stream 1's report is the only report that this stream can have
+-- on its own.
 pub report_alone : ReadersClosed → MatchIsReading → {S : Type 0} (view : SourceView S) (firsts lasts : List S) (bytes : List ℕ)
     (reports : List Report) (report : Report)
     → IsIsolated view firsts lasts reports four two_terms → CiteWithin layout_of_two (one 1) bytes
@@ -151,7 +152,7 @@ order_says streams reports verdict (order, comes) is = record {
       (list_any (λ p. length p.1 == 0) (published (events_in order.blocks))) comes.empty is;
 }
 
--- What a run promises implies that its verdict is that of an order of its lines.
+-- What a run promises implies that its verdict is the verdict of an order of its lines.
 pub has_order : (known : List InputObservation) (reports : List Report) (h : History) (verdict : Verdict)
     → HasOrdered known reports h four two_terms
     → verdict ≡ verdict_of reports → FoundStays four layout_of_two (λ s. true) h → HasOrder verdict
@@ -179,7 +180,7 @@ full_from run_params AreOwn s (stream ∷ streams) (one ∷ reports) (d ∷ all)
     full_from run_params AreOwn (s + 1) streams reports all have.1 k report dropped says at memory
 full_from run_params AreOwn s _ _ _ have k report dropped says at memory = absurd have
 
--- The lines of the first stream, and of one that only imports
+-- The lines of the first stream, and of a stream that only imports
 
 -- a line has at least one byte
 longer : (xs ys : List ℕ) (y : ℕ) (more : List ℕ) → ([] ≡ (xs ++ y ∷ ys) ++ more) → ⊥
@@ -213,7 +214,7 @@ first_is_cut = record {
   last = none_in_nothing;
 }
 
--- of the identities that the lines cite, only 5 is a stream's
+-- of the identities that the lines cite, 5 is stream 1's; the others are the formula's
 formulas : (id : ℕ) → owner layout_of_two id ≡ owners.Formula → IsOwnedWithin layout_of_two (one 1) id
 formulas id is t owns = absurd (let no : owners.Formula ≡ owners.Stream t = sym is ∙ owns in cc)
 
@@ -236,7 +237,7 @@ import_is_cut = record {
   last = none_in_nothing;
 }
 
--- stream 2 doesn't own 5, so the set of only this stream isn't closed if it imports 5
+-- stream 2 doesn't own 5, so the set of only stream 2 isn't closed if this stream imports 5
 pub import_is_open : OneCut → ¬ CiteWithin layout_of_two (one 2) (codes "5 i 2 0\n")
 import_is_open law cites =
     let same = law (codes "5 i 2 0\n") cites.lines (Import 5 (pos 2 ∷ []) ∷ []) cites.rest [] cites.cut import_is_cut in

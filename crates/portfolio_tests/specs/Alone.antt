@@ -31,7 +31,7 @@ layout_of_two = layout_of usual four 2
 abbrev pub two_terms : RunParamsValue
 two_terms = run_params_of usual [] four 2
 
--- with these bytes, and an end after them, stream 1 on its own may have only this report
+-- if stream 1 has these bytes and then ends, this is the only report that it may have on its own
 pub record IsOnlyReport (bytes : List ℕ) (report : Report) : Type 0 where
   pub alone : IsReportAlone four two_terms 1 bytes stream_ends.Ended report
   pub only : (other : Report) → IsReportAlone four two_terms 1 bytes stream_ends.Ended other

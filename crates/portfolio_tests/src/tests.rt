@@ -38,7 +38,7 @@ trait Machine: Threads + Wait + Clock + Abort + AllocGlobal + Sync {}
 
 impl<T: Threads + Wait + Clock + Abort + AllocGlobal + Sync> Machine for T {}
 
-/// Stops the test if two values differ. Since it is a function, the assertion is proved only once.
+/// Stops the test if two values differ. This is a function, so the assertion is proved only once.
 fn same<T: PartialEq + fmt::Debug + Drop>(rt: &impl Abort, value: T, wanted: T) {
     assert_eq!(rt; value, wanted);
 }
@@ -139,8 +139,8 @@ fn defaults() -> Options
     options(1_000, 65_536, 1_048_576)
 }
 
-/// A reader for each stream, whose reads give at most `most` bytes. For the first streams
-/// `fails_at` has the number of the read that fails, or 0.
+/// A reader for each stream, whose reads give at most `most` bytes. For the first streams,
+/// `fails_at` has the number of the read that fails, or 0 if no read fails.
 fn failing_readers<'a>(
     alloc: Global,
     streams: &[&'a str],

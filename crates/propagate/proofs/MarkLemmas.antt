@@ -135,12 +135,12 @@ cleared-next marks ls k view x lt at e cleared l h =
       | inr same ↦ ap (λ j. get_or (set marks view false) j false) (ap code_of (sym same) ∙ sym e) ∙ cleared-at marks view
     ]
 
--- a literal of a clause is a literal over more variables, too
+-- a clause's literal is still a literal if there are more variables
 pub IsLiteral-read : (vars more : ℕ) (d : List ℤ) (l : ℤ) → IsClause vars d → vars ≤ more → Has d l → IsLiteral more l
 IsLiteral-read vars more d l clause le h =
     let is : IsLiteral vars l = All-Has (IsLiteral vars) d l clause.literals h in (is.0, omega (arith, is.1))
 
--- a literal of a known clause is over the formula's variables, and so over more variables
+-- a literal of a known clause is a literal over the formula's variables, and so over more variables
 pub IsLiteral-known : (vars : ℕ) (view : CallerView) (clip : ClipValue) (k : ℕ) (l : ℤ) → AllFollow view → IsKnown view clip
     → view.caller.formula.vars ≤ vars → slice_get (clip_clause view clip) k ≡ Some l → IsLiteral vars l
 IsLiteral-known vars view clip k l follow known le at =

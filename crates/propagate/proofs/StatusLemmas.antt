@@ -57,7 +57,7 @@ HasStatus-true n d x not_false is_true = (
   ]),
 )
 
--- with a first literal that is neither false nor true, the clause is unit
+-- after only false literals, a literal that is neither false nor true makes the clause unit
 pub HasStatus-one : (n : List ℤ) (d : Clause) (x : ℤ) → IsConflict n d → (¬ Has n x) → (¬ Has n (neg_ℤ x)) → IsUnit n (d ++ x ∷ []) x
 HasStatus-one n d x conflict not_false not_true = record {
   here = Has-push d x;
@@ -136,7 +136,7 @@ HasStatus-pair n d i x (Some y) status at at' false_too before =
     let one = HasStatus-passed n d (2 * i) x status at false_too.0 before in
     subst (λ k. HasStatus n (take k d) status) next (HasStatus-passed n d (2 * i + 1) y status at' (false_too.1 y refl) one)
 
--- if one of the first literals isn't false, and a later one isn't false either, the clause is
+-- if one of the first literals isn't false, and a later literal isn't false either, the clause is
 -- neither unit nor a conflict
 HasStatus-following : (n : List ℤ) (d : Clause) (i k : ℕ) (x lit : ℤ) → EachOnce d → slice_get d k ≡ Some x → i ≤ k
     → IsUnit n (take i d) lit
@@ -153,8 +153,8 @@ HasStatus-following n d i k x lit once at following unit not_false =
           ]),
     )
 
--- if one literal isn't false, and one of a later pair isn't false either, the clause is neither
--- unit nor a conflict
+-- if one literal isn't false, and a literal of a later pair isn't false either, the clause is
+-- neither unit nor a conflict
 pub HasStatus-open_pair : (n : List ℤ) (d : Clause) (i : ℕ) (x : ℤ) (second : Option ℤ) (lit : ℤ) → EachOnce d
     → slice_get d (2 * i) ≡ Some x
     → slice_get d (2 * i + 1) ≡ second → IsUnit n (take (2 * i) d) lit → (¬ Has n x) ⊎ ((l : ℤ) × (second ≡ Some l) × (¬ Has n l))

@@ -111,8 +111,8 @@ pub unmarked-next : (before marks : List Bool) (d : List ℤ) (k : ℕ) (x : ℤ
 unmarked-next before marks d k x once at are none =
     (x, Has-at d k x at, λ b. none ((are.left x).1 (b, Has-before d k x once at)))
 
--- if the clause's literals were all marked, and no mark of the list's is left after clearing
--- theirs, the clause and the list have the same literals
+-- if all the clause's literals were marked, and clearing these marks leaves no literal of the list
+-- marked, the clause and the list have the same literals
 pub same-literals : (before marks : List Bool) (d ls : List ℤ) → AreTaken before marks d → ((l : ℤ) → Has d l → IsMarked before l
     → Has ls l) → ((l : ℤ) → Has ls l → IsMarked before l) → (¬ ((l : ℤ) × Has ls l × IsMarked marks l)) → (l : ℤ) → Has d l ↔ Has ls l
 same-literals before marks d ls are from to none l = (

@@ -123,8 +123,9 @@ impl Marks {
         self.ready
     }
 
-    /// Returns what the clause of a hint is. If it is unit, the complement of its last literal
-    /// becomes false. The code reads each literal at most once.
+    /// Returns whether the clause of a hint is unit, a conflict, or neither. If it is unit, the
+    /// complement of its only literal that isn't false becomes false. The code reads each literal
+    /// at most once.
     pub fn hint<M: ClauseMap>(&mut self, map: &mut M, clip: &Clip) -> Step
         requires ready { IsTrue self.old.ready }
         requires known { IsKnown (M.caller_view map.old) clip.now }
@@ -137,7 +138,7 @@ impl Marks {
         ensures step { Steps self.old (clip_clause (M.caller_view map.old) clip.now)
             result self.new }
 
-        // These reads make no events.
+        // These reads are not events.
         ensures event { M.moves map.old map.new [] }
         ensures stays { M.caller_view map.new ≡ M.caller_view map.old }
     {
@@ -170,7 +171,7 @@ impl Marks {
         ensures idle { self.new
             ≡ record { vars = self.old.vars; clause = []; falses = []; ready = false } }
 
-        // These reads make no events.
+        // These reads are not events.
         ensures event { M.moves map.old map.new [] }
         ensures stays { M.caller_view map.new ≡ M.caller_view map.old }
     {
@@ -182,8 +183,8 @@ impl Marks {
 }
 
 /// Reads the clause, pair by pair, until it turns out to be neither unit nor a conflict. While all
-/// literals are false, it reads one mark for each. For the first literal that isn't false it reads
-/// the mark of the complement, too; after that a second literal that isn't false decides
+/// literals are false, the call reads one mark for each. For the first literal that isn't false it
+/// reads the mark of the complement, too; after that a second literal that isn't false decides
 /// (`status_after`).
 fn clause_status<M: ClauseMap>(falses: &Trail, map: &mut M, clip: &Clip) -> ClauseStatus
     requires known { IsKnown (M.caller_view map.old) clip.now }
@@ -237,7 +238,7 @@ fn status_after<M: ClauseMap>(
     ClauseStatus::One(lit)
 }
 
-/// Whether the literal is false, and the second one, too, if there is one.
+/// Whether the first literal is false and, if there is a second one, that is false, too.
 #[inline]
 fn are_false(falses: &Trail, first: Lit, second: &Option<Lit>) -> bool
     requires first { IsLiteral falses.now.vars first }

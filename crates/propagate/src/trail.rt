@@ -33,7 +33,7 @@ impl Model for Trail {
 }
 
 impl Trail {
-    /// A trail on which no literal is false. The code allocates all memory here.
+    /// A trail without false literals. The code allocates all memory here.
     pub fn new(alloc: Global, vars: u32) -> Result<Trail, AllocError>
         ensures { IfOk result (λ t. t ≡ record { vars = vars; literals = [] }) }
     {

@@ -13,12 +13,12 @@ use std::process::Abort;
 use std::test::Fail;
 use test_support::lit;
 
-/// Stops the test if two values differ. Since it is a function, the assertion is proved only once.
+/// Stops the test if two values differ. This is a function, so the assertion is proved only once.
 fn same<T: PartialEq + fmt::Debug + Drop>(rt: &impl Abort, value: T, wanted: T) {
     assert_eq!(rt; value, wanted);
 }
 
-/// Stops the test if this doesn't hold.
+/// Stops the test if the fact is false.
 fn holds(rt: &impl Abort, fact: bool)
     ensures { IsTrue fact }
 {
@@ -34,7 +34,7 @@ fn literal(rt: &impl Abort, value: i64) -> Lit
     literal
 }
 
-/// Begins a clause with repeats, and the empty one.
+/// Begins a clause with repeats, and then the empty clause.
 fn take_up(rt: &impl Abort, marks: &mut Marks) -> Result<(), Fail>
     requires { marks.old.vars ≡ 16777215 }
     ensures { marks.new.vars ≡ 16777215 }
@@ -142,7 +142,7 @@ fn try_hint<M: ClauseMap>(marks: &mut Marks, map: &mut M, id: u64) -> Option<Ste
 }
 
 /// Begins the clause of the literal 1 and tries these hints. Returns the step of the last hint,
-/// whether another hint may follow, and whether the clause is still the same.
+/// whether another hint may follow, and whether the clause is unchanged.
 fn try_hints<M: ClauseMap>(
     marks: &mut Marks,
     map: &mut M,
@@ -229,7 +229,7 @@ fn is_clause<M: ClauseMap>(marks: &mut Marks, map: &mut M, id: u64, lits: &[Lit]
     Some(marks.same(map, &clip, lits))
 }
 
-/// An identity, literals, and whether its clause has exactly these.
+/// An identity, literals, and whether the identity's clause has exactly these literals.
 static COMPARED: [(u64, &[i64], bool); 12] = [
     (1, &[1, 2], true),
     (1, &[2, 1, 2, 2], true),

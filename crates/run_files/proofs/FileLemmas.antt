@@ -1,4 +1,4 @@
--- Files that are read one after the other, and why one wasn't read.
+-- Files that are read one after the other, and why a file wasn't read.
 use Rattle.std.proofs.Common.{◌≡◌, ◌≢◌, ◌∙◌, ℕ, List, Option, None, Some, Result, Ok, Err, IfOk, inl, inr, refl}
 use Rattle.std.specs.Option.{ForSome}
 use Rattle.std.specs.declared.io.ErrorKind.{ErrorKind}
@@ -21,7 +21,7 @@ use Rattle.run_files.specs.declared.fault.CommandFault.TheVariants as faults
 use Rattle.run_files.specs.declared.files.OpenFault.{OpenFault}
 use Rattle.run_files.specs.declared.files.OpenFault.TheVariants as opens
 
--- why a file wasn't opened, or not read to its end
+-- why a file wasn't opened, or wasn't read to its end
 pub opening_cause : (files : FilesView) (before : files.its.State) (path : Text) (fault : OpenFault) (after : files.its.State)
     → files.its.refuses before path fault after → IsFileCause files before path (of_open fault) after
 opening_cause files before path opens.NotOpened after refused = inl refused
@@ -47,7 +47,7 @@ was_read files before path reader after items (Ok bytes) opened left gave all =
     record { reader = reader; opened = opened; gave = gave; known = λ whole known. all whole (left ∙ known) }
 was_read files before path reader after items (Err fault) opened left gave all = tt
 
--- the cause for the formula's file, and for the file of the assumed literals
+-- why the formula's file, or the file of the assumed literals, wasn't opened or read
 pub formula_file_cause : (files : FilesView) (given : CommandLine) (fault : CommandFault) (after : files.its.State)
     → IsFileCause files files.first given.formula.now fault after → IsReadCause files given fault after
 formula_file_cause files given (faults.Refused fault) after cause = absurd cause
@@ -60,7 +60,7 @@ cube_file_cause files vars before path faults.Unread after cause = cause
 cube_file_cause files vars before path faults.Memory after cause = cause
 cube_file_cause files vars before path fault after cause = absurd cause
 
--- why the bytes that were read aren't a formula, or a text of literals
+-- why the bytes that were read aren't a formula, or aren't a text of literals
 pub text_cause : (files : FilesView) (given : CommandLine) (bytes : List ℕ) (after : files.its.State)
     → WasReadIn files files.first given.formula.now bytes after
     → (fault : DimacsFault) → (fault ≢ formulas.Memory → IsFormulaFault bytes fault) → IsReadCause files given (of_formula fault) after
@@ -82,7 +82,7 @@ cube_text_cause files vars before path bytes after was cubes.TooLong is = (λ e.
 cube_text_cause files vars before path bytes after was cubes.Range is = (λ e. cc, (bytes, was, is))
 cube_text_cause files vars before path bytes after was cubes.Memory is = inr (inr (was.reader, was.opened))
 
--- A cause for a later file doesn't depend on the first state of the files.
+-- Why a later file couldn't be used doesn't depend on the first state of the files.
 module _ (files : FilesView) (first : files.its.State) where
   abbrev later : FilesView
   later = from_first files first
@@ -103,7 +103,7 @@ module _ (files : FilesView) (first : files.its.State) where
   moved_cause vars before (Some path) faults.Memory after cause = cause
   moved_cause vars before (Some path) fault after cause = absurd cause
 
--- all errors of the system but out of memory mean `NotOpened`
+-- all errors of the system except `OutOfMemory` mean `NotOpened`
 pub other_fault : (kind : ErrorKind) → kind ≢ kinds.OutOfMemory → of_kind kind ≡ opens.NotOpened
 other_fault kinds.OutOfMemory other = absurd (other refl)
 other_fault kind other = refl

@@ -26,14 +26,14 @@ opened_more left contents later text before after reader paths k d inside is kno
     let reads : left reader ≡ contents (text path) = one ∙ ap (λ t. t (text path)) stays in
     readers ∙ ap (λ ls. ls ++ left reader ∷ []) same ∙ ap (λ l. map contents (map text (take k paths)) ++ l ∷ []) reads ∙ sym mapped
 
--- the paths up to one, followed by that one
+-- the first k + 1 paths are the first k, followed by the path at index k
 one_path_more : {B T : Type 0} (text : B → T) (paths : List B) (k : ℕ) (d : B) → k < length paths
     → take (k + 1) (map text paths) ≡ take k (map text paths) ++ text (get_or paths k d) ∷ []
 one_path_more text paths k d inside =
     take-map text (k + 1) paths ∙ ap (map text) (take_more paths k d inside) ∙ map-append text (take k paths) (get_or paths k d ∷ [])
     ∙ ap (λ ts. ts ++ text (get_or paths k d) ∷ []) (sym (take-map text k paths))
 
--- the files so far were opened as these readers, and the next one, too
+-- if the next file is opened after those so far, all of them were opened in order
 push_opened : {F R : Type 0} (opens : F → Text → R → F → Type 0) (first : F) (paths : List Text) (readers : List R) (before : F)
     (path : Text) (reader : R) (after : F)
     → AreOpened opens first paths readers before → opens before path reader after

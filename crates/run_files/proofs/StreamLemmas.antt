@@ -1,4 +1,4 @@
--- The paths of a round's streams, and the streams that are opened there.
+-- The paths of a round's streams, and the streams that are opened at these paths.
 use Rattle.std.proofs.Common.{◌++◌, ◌+◌, ◌-◌, ◌<◌, ◌∙◌, ◌∷◌, ◌≡◌, List, [], add-one, ap, arith, drop, get_or, length}
 use Rattle.std.proofs.Common.{length-append, map, refl, suc, sym, take, zero, ℕ}
 use Rattle.std.proofs.lemmas.List.{take_all}

@@ -2,7 +2,7 @@
 use Rattle.std.proofs.Common.{◌++◌, ◌+◌, ◌<◌, ◌∙◌, ◌∷◌, ◌≡◌, List, [], ap, get_or, length, map, sym, take, ℕ}
 use Rattle.std.proofs.lemmas.List.{map-append, take_more}
 
--- if the words so far have the texts of the arguments so far, so do the words with one more
+-- if the words so far have the texts of the arguments so far, this is still true with one more word
 pub read_more : {W A T : Type 0} (word_text : W → T) (text : A → T) (before after : List W) (word : W) (arguments : List A) (k : ℕ) (d : A)
     → k < length arguments → after ≡ before ++ word ∷ [] → map word_text before ≡ map text (take k arguments)
     → word_text word ≡ text (get_or arguments k d) → map word_text after ≡ map text (take (k + 1) arguments)

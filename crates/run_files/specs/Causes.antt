@@ -26,7 +26,7 @@ use Rattle.run_files.specs.declared.fault.CommandFault.TheVariants as faults
 use Rattle.run_files.specs.declared.files.OpenFault.{OpenFault}
 use Rattle.run_files.specs.declared.files.OpenFault.TheVariants as open_faults
 
--- Causes, and the files when the fault arose: only the earlier openings and creations were done to
+-- Causes, and the files when the fault arose: only the earlier openings and creations have changed
 -- them, in order. Nothing shows afterwards that memory ran out or that a thread wasn't started, so
 -- these are possible causes for any files.
 
@@ -187,7 +187,7 @@ IsCause files words fault after =
     (given : CommandLine) × IsCommandLineOf words given × IsCauseAt files given fault after
 
 -- The file at the path was opened, and holds no text of sizes: reading it to its end gave at most
--- 64 bytes, which are no such text; or 64 bytes were read, more than any such text has. If the
+-- 64 bytes, which aren't such a text; or 64 bytes were read, more than any such text has. If the
 -- file's contents are known, they are these bytes, or begin with them.
 pub record HoldsNoSizes (its : Effects) (before : its.State) (path : Text)
     (after : its.State) : Type 0 where

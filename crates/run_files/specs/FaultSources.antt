@@ -12,8 +12,8 @@ use Rattle.run_files.specs.declared.fault.CommandFault.TheVariants as faults
 use Rattle.run_files.specs.declared.files.OpenFault.{OpenFault}
 use Rattle.run_files.specs.declared.files.OpenFault.TheVariants as opens
 
--- the cause for a fault of the words, of the formula, of the assumed literals or of an opening; out
--- of memory is the same cause everywhere
+-- the cause that reports a fault of the words, of the formula, of the assumed literals or of an
+-- opening; running out of memory is the same cause everywhere
 abbrev pub of_words : WordsFault → CommandFault
 of_words (words.Usage text) = faults.Usage text
 of_words words.TwoCheckpoints = faults.TwoCheckpoints
@@ -31,7 +31,7 @@ abbrev pub of_open : OpenFault → CommandFault
 of_open opens.NotOpened = faults.Unread
 of_open opens.Memory = faults.Memory
 
--- the cause for a fault of a run
+-- the cause that reports a fault of a run
 abbrev pub of_run : RunFault → CommandFault
 of_run (runs.Layout fault) = faults.Layout fault
 of_run runs.Memory = faults.Memory

@@ -99,7 +99,7 @@ of_round round = if round == 1 then [] else codes "round " ++ decimal round ++ c
 abbrev pub round_error_line : ℕ → List ℕ → List ℕ
 round_error_line round cause = error_line (of_round round ++ cause)
 
--- the message for a fault of a round; from round 2 on it names the round
+-- the message for a fault of a round; from round 2 on, it names the round
 abbrev pub round_error_text : ℕ → CommandFault → List ℕ
 round_error_text round (faults.Usage text) = text
 round_error_text round fault = round_error_line round (cause_text fault)

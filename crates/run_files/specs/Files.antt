@@ -57,7 +57,7 @@ pub record IsLeftEmpty {F W : Type 0} (creates : F → Text → W → F → Type
   pub discarded : discards next output after
 
 -- the cube is what was read from the file of assumed literals at the path, over the variables 1 to
--- vars; without a path it is empty, and nothing is opened
+-- vars; without a path, the cube is empty, and nothing is opened
 abbrev pub AreAssumed : {F : Type 0} → (F → Text → List ℕ → F → Type 0) → ℕ → F → Option Text
     → CubeValue → F → Type 0
 AreAssumed Read vars before None cube after = (cube ≡ []) × (after ≡ before)
@@ -119,7 +119,7 @@ effects_of {F = F} {R = R} {W = W} its more input output = record {
 }
 
 -- What is known of files: the effects of calls on them; their first state; and the contents of the
--- file at each path, if known. These stay the same while files are opened.
+-- file at each path, if known. The contents stay the same while files are opened.
 pub record FilesView : Type 1 where
   pub its : Effects
   pub first : its.State
@@ -169,8 +169,8 @@ pub record HasBegun (files : FilesView) (given : CommandLine) (formula : Cnf) (c
         ≡ map files.contents given.streams
     pub known : files.its.contents later ≡ files.contents
 
--- the sizes of the next round: the old ones, if there is no file of new ones; otherwise those whose
--- text was read from the file
+-- the sizes of the next round: the old sizes if there is no file of sizes; otherwise the sizes
+-- whose text was read from that file
 abbrev pub AreSized : (its : Effects) → Text → Sizes → its.State → Sizes → its.State → Type 0
 AreSized its path old before new after =
     (its.lacks before path after × (new ≡ old))

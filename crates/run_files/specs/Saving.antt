@@ -22,9 +22,9 @@ use Rattle.run_files.specs.declared.files.OpenFault.TheVariants as open_faults
 -- An attempt to save a checkpoint to a sink, which was `first` before and `last` after. The streams
 -- of the formula with this layout had been checked, with this history and these dropped identities.
 -- A successful save wrote a text of a formula over the same variables, whose clauses all follow
--- from `formula`; the saved formula is the next one, if one is given. Its clauses are exactly those
--- that the history leaves live, except those that all streams dropped. The result is `Unwritten`
--- exactly if the sink has failed.
+-- from `formula`; if the result has a formula, it is the saved one. The saved clauses are exactly
+-- those that the history leaves live, except those that all streams dropped. The result is
+-- `Unwritten` exactly if the sink has failed.
 pub record SavesCheckpoint (its : Effects) (formula : Cnf) (layout : LayoutValue)
     (history : History)
     (dropped : List DroppedIdsValue) (result : Result (Option Cnf) SaveFault)

@@ -83,8 +83,8 @@ impl Closed {
     }
 }
 
-/// Saves the run's clauses to the checkpoint's file, if there is one, and closes it. With the
-/// verdict 'unsatisfiable' it discards the file unwritten.
+/// Saves the run's clauses to the checkpoint's file, if there is one, and closes it. If the verdict
+/// is 'unsatisfiable', it discards the file without writing to it.
 pub fn close_checkpoint<F: Machine>(
     alloc: Global,
     files: &mut F,

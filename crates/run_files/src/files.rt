@@ -142,7 +142,7 @@ pub trait Viewed {
     /// The effects of calls on files, and what is known of files.
     ghost effects: { Effects };
 
-    /// The effects and what is known, with these files as a run's first ones.
+    /// The effects, what is known of files, and these files as the first state of a run.
     ghost view: { Self → FilesView };
 }
 

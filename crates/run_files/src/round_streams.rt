@@ -99,7 +99,7 @@ fn stream_paths(
     Ok(paths)
 }
 
-/// The path of stream `stream` (counted from 1) of the round with this number.
+/// The path of stream `stream` (from 1) of round `number`.
 fn stream_path(alloc: Global, folder: &str, number: u64, stream: u64) -> Result<String, AllocError>
     ensures { IfOk result (λ path. string_bytes path ≡ stream_path folder.now number stream) }
 {

@@ -94,7 +94,8 @@ fn while_reporting<T: Threads + Wait + Sync, S: Sink + Send + Drop, O, G: FnMut(
     opened
 }
 
-/// Reports an opening that isn't finished after a second. `finished` is 1 once the opening is.
+/// Reports an opening that isn't finished after a second. `finished` becomes 1 when the opening
+/// ends.
 fn report_unopened<W: Wait, S: Sink>(
     wait: &W,
     alloc: Global,

@@ -29,13 +29,13 @@ with-same rest s bs t same = cond-true (eqb t s) bs (rest t) (eq-eqb t s same)
 pub with-other : (rest : Lines) (s : ℕ) (bs : List History) (t : ℕ) → (t ≡ s → ⊥) → with rest s bs t ≡ rest t
 with-other rest s bs t other = cond-false (eqb t s) bs (rest t) (ne_eqb t s other)
 
--- these blocks have the events of each stream; streams that aren't in the layout have none
+-- each stream's blocks have its events; a stream that isn't in the layout has no blocks
 pub record Ahead (p : LayoutValue) (h : History) (rest : Lines) : Type 0 where
   pub own_events : (s : ℕ) → own h s ≡ joined (rest s)
   pub lines : (s : ℕ) → AllByRecursion IsLineBlock (rest s)
   pub outside : (s : ℕ) → (IsStream p s → ⊥) → rest s ≡ []
 
--- the blocks still have the streams' events after stream s alone has advanced
+-- the blocks still have the streams' events after only stream s has advanced
 pub ahead-with : (p : LayoutValue) (g h : History) (rest : Lines) (s : ℕ) (bs : List History) → Ahead p g rest → IsStream p s
     → own h s ≡ joined bs → ((t : ℕ) → (t ≡ s → ⊥) → own h t ≡ own g t) → AllByRecursion IsLineBlock bs → Ahead p h (with rest s bs)
 ahead-with p g h rest s bs ahead is here others lines = record {

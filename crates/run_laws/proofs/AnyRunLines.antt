@@ -137,8 +137,8 @@ replies_agree ownerships.Foreign c Mine Theirs m h rest left d r asked alike is 
 replies_agree ownerships.Outside c Mine Theirs m h rest left d r asked alike is asks mine theirs =
     absurd (let no : events.live d ≡ events.vacant = asks.1 in cc)
 
--- the first history's look-up found this clause; the second one's finds it or lacks it, and the
--- events after both are fair
+-- the first history's look-up found this clause; the second history's look-up finds it or lacks it;
+-- and the events after both look-ups are fair
 record LooksAlike (c : StreamParams) (Mine Theirs : ℕ → Clause → Type 0) (m : State) (h : ℕ) (d : Clause) (answer : Result Clause Fault)
     (rest left : History) : Type 0 where
   that : IsThatOrLacks c Mine h d answer
@@ -238,8 +238,8 @@ import_agrees c Mine Theirs m st id lits fs es deleted fault alike good mine the
 
 -- Deletions
 
--- deleting one identity, if good in one history, is good in the other with the same events,
--- provided that the rest is
+-- if deleting an identity is good in one history, it is good in the other with the same events,
+-- provided that this holds for the rest of the deletion
 at_agrees : (ownership : Ownership) (c : StreamParams) (Mine Theirs : ℕ → Clause → Type 0) (m : State) (is_dropped : ℕ → Bool)
     (earlier : List ℕ) (id : ℕ)
     (fs es : History) (v : LineVerdict) (A B : History → Type 0)

@@ -136,7 +136,7 @@ in_all P x [] all is = absurd is
 in_all P x (y ∷ xs) all (inl here) = subst P here all.0
 in_all P x (y ∷ xs) all (inr later) = in_all P x xs all.1 later
 
--- what one of its streams published, the history published
+-- a history publishes everything that one of its streams publishes
 pub own_published : (h : History) (s : ℕ) (x : ℕ × Clause) → IsIn x (published (own h s)) → IsIn x (published h)
 own_published [] s x is = is
 own_published (e ∷ h) s x is =
@@ -259,7 +259,8 @@ LacksFound c Mine count report = (d : Clause) × (line h : ℕ) × Mine h d × (
 abbrev pub IsCutIn : ℕ → Report → Type 0
 IsCutIn count report = (line : ℕ) × (line ≤ count) × IsExcusedAt CutOff report line
 
--- the report has an ending in the first `count` lines, without blame
+-- the stream isn't to blame: in one of the first `count` lines, it was cut off or lacks another
+-- stream's clause
 abbrev pub IsBlameless : StreamParams → (ℕ → Clause → Type 0) → ℕ → Report → Type 0
 IsBlameless c Mine count report = IsCutIn count report ⊎ LacksFound c Mine count report
 
@@ -312,7 +313,7 @@ module _ (first : OneFirstLine) (refused : RefusedStays) (c : StreamParams) (Min
       (omega (arith, below)) limits is none pending says)
 
   -- if a stream's bytes begin with lines that are good in the first history, its good lines in the
-  -- second begin with these lines, or it ends in these lines without blame
+  -- second begin with these lines, or it ends in these lines and isn't to blame
   pub lines_go_on : (before lines others : List StreamLine) (fs front back : List History) (m : State) (rest left more : List ℕ)
       (end : StreamEnd)
       (count : ℕ) (report : Report) → length before + length lines ≤ count

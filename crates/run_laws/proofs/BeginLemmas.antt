@@ -28,7 +28,7 @@ use Rattle.run_laws.proofs.AnyRunStreams.{lines_go_on, goes_on_says}
 use Rattle.run_laws.proofs.ValidLemmas.{all_others, valid_judged}
 use Rattle.run_laws.proofs.ValidLines.{own_ownership}
 
--- What a stream that is alone finds from others
+-- What a stream on its own finds from others
 
 -- no clause of another stream is found
 abbrev Nothing : ℕ → Clause → Type 0

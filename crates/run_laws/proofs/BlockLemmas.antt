@@ -193,7 +193,7 @@ without-settled p final s (block ∷ blocks) all =
           (all.0, without-settled p final s blocks all.1)
     ]
 
--- what is known about all blocks is known about a stream's first one
+-- what is known about all blocks is known about a stream's first block
 pub first-settled : (p : LayoutValue) (final : State) (s : ℕ) (blocks : List Block) (b : History) (more : List History)
     → AllByRecursion (IsSettled p final) blocks → blocks_of s blocks ≡ b ∷ more → IsSettled p final (record { stream = s; events = b })
 first-settled p final s [] b more all is = absurd (cc)

@@ -1,4 +1,4 @@
--- If a stream was stopped early, its report names neither possible end.
+-- If a stream was stopped early, its report says neither that it ended nor that a read failed.
 use Rattle.std.proofs.Common.{◌≡◌, ℕ, List, [], ◌∷◌, Option, None, sym, ap, subst, ◌∙◌}
 use Rattle.std.specs.Prelude.{IfSome}
 use Rattle.lrup_model.specs.Event.{History}
@@ -30,7 +30,7 @@ ends_not_failed c lines rest blocks report n (at_bad_text _ _ _ says) e = let f 
 ends_not_failed c lines rest blocks report n (at_memory _ _ _ _ _ _ _ _ _ says) e = let f = sym e ∙ ap (λ (r : Report). r.ending) says in cc
 ends_not_failed c lines rest blocks report n (at_end _ _ says) e = end_not_failed rest _ n (sym (ap (λ (r : Report). r.ending) says) ∙ e)
 
--- a stream that was stopped early may have any end
+-- if no end of a stream is known, any end is possible
 any_end : (known : Option StreamEnd) (end : StreamEnd) → known ≡ None → IfSome known (λ its. its ≡ end)
 any_end known end early = subst (λ o. IfSome o (λ its. its ≡ end)) (sym early) tt
 

@@ -94,7 +94,7 @@ cites_pass p set lines some within =
     (cited_by line) all)
     lines within
 
--- if a stream cites within the set, what it fetches is within the set
+-- a stream that cites no identity of a stream outside the set fetches no such identity
 fetches_within : CitedFetched
     → (p : LayoutValue) (set : ℕ → Bool) (c : StreamParams) (stream : Stream) (blocks : List History) (report : Report)
     → 0 < p.streams → CiteWithin p set stream.bytes → JudgesStream c stream blocks report
@@ -128,7 +128,8 @@ finds_outside p set (events.fetch s id r) out = λ member. absurd (true≢false 
 finds_outside p set (events.publish s id c r) out = tt
 finds_outside p set (events.retire s id r) out = tt
 
--- if a history judges the streams of a closed set, their fetches find only what is within the set
+-- if a history judges the streams of a closed set, these streams find no clause of a stream outside
+-- the set
 pub closed_finds : CitedFetched
     → (run_params : RunParamsValue) (set : ℕ → Bool) (h : History) (streams : List Stream) (reports : List Report)
     → length streams ≡ run_params.layout.streams → AreJudgedIn run_params set h 1 streams reports → IsClosed run_params.layout set streams

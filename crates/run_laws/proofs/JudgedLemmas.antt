@@ -57,7 +57,8 @@ judged_blocks early_events vacant_tries_again c bytes end blocks report j =
 
 -- The judged lines are the first lines that the bytes are cut into
 
--- `lines` are the first of all the lines that the bytes are cut into, and `left` has the others
+-- `lines` are the first of the lines `all`, and the bytes `left` are the texts of the others,
+-- followed by `rest`
 pub record AreFirst (lines all : List StreamLine) (left rest : List ℕ) : Type 0 where
   pub more : List StreamLine
   pub is : all ≡ lines ++ more

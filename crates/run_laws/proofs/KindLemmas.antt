@@ -1,4 +1,5 @@
--- The kinds of events that a line has: a deletion has only retires, and other lines have none.
+-- The kinds of events that a line has: a deletion has only retires, and other lines have no
+-- retires.
 use Rattle.std.proofs.Common.{ℕ, Bool, List, [], ◌∷◌}
 use Rattle.std.specs.Prelude.{IsTrue}
 use Rattle.std.specs.List.{AllByRecursion}

@@ -33,7 +33,7 @@ lines_other t s order other =
     let none : ◌≡◌ {A = ℕ} (cond (eqb t s) 1 0) 0 = ap (λ (b : Bool). cond {A = ℕ} b 1 0) (ne_eqb t s other) in
     omega (arith, sum_by-cons (λ u. cond (eqb u s) 1 0) t order, none)
 
--- if a stream has a line left, no other stream is ahead of it
+-- if a stream has a line left, it may have the next turn
 waits : (before order : List ℕ) (t : ℕ) → AreTurns before order → 0 < line_count t order → IsTurnOf t before
 waits before [] t turns some = absurd (omega (arith, some))
 waits before (s ∷ order) t turns some = elim (cases_eq s t) [

@@ -150,7 +150,7 @@ members_are : (p : LayoutValue) (set : ℕ → Bool) (h : History) → AllByRecu
 members_are p set [] all = tt
 members_are p set (e ∷ h) all = ((streams_are p set (stream_of e) all.0).1, members_are p set h all.1)
 
--- the lines of the set's streams, and none of other streams
+-- only the lines of the set's streams
 abbrev lines_in : LayoutValue → (ℕ → Bool) → Lines → Lines
 lines_in p set blocks = λ s. cond (streams_in p set s) (blocks s) []
 

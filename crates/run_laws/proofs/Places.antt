@@ -27,7 +27,7 @@ pub judged_at : (run_params : RunParamsValue) (set : ℕ → Bool) (h : History)
 judged_at run_params set h streams reports judged s stream report member at says =
     each_at _ streams reports judged s stream report at says member
 
--- if the streams of a set are judged, so are those of a smaller set
+-- if the streams of a set are judged, so are the streams of a subset
 pub judged_fewer : (run_params : RunParamsValue) (all set : ℕ → Bool) (h : History) → ((s : ℕ) → IsTrue (set s) → IsTrue (all s))
     → (s : ℕ) (streams : List Stream) (reports : List Report) → AreJudgedIn run_params all h s streams reports
     → AreJudgedIn run_params set h s streams reports

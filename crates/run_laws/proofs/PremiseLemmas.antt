@@ -1,4 +1,5 @@
--- The premise about what is retired: by the final state, by events, and by the streams' lines.
+-- The premise about what is retired, stated for the final state, for events, and for the streams'
+-- lines.
 use Rattle.std.proofs.Common.{◌≡◌, ◌⊎◌, ◌-◌, ◌&&◌, ◌||◌, ℕ, Bool, eqb, List, [], ◌∷◌, ◌++◌, length, refl, sym, subst, ◌∙◌, inl, inr, ltb}
 use Rattle.std.proofs.Common.{leb, eq-eqb, arith}
 use Rattle.std.specs.Prelude.{IsTrue}
@@ -31,7 +32,7 @@ use Rattle.run_laws.proofs.SwapLemmas.{gone_stays}
 use Rattle.run_laws.proofs.WalkLemmas.{own-calls}
 use Rattle.run_laws.proofs.StreamLemmas.{IsJudgedStream, judged_stream, is_inside, inside_owner, fetched_inside}
 
--- What a history leaves retired, it has retired
+-- An identity that is retired after a history was retired in it, or before it
 
 gone_back : (m : State) (e : Event) (id : ℕ) → IsRetired (after m e id) → IsRetired (m id) ⊎ IsRetireOf id e
 gone_back m (events.fetch s j r) id is_dropped = inl is_dropped
@@ -75,7 +76,7 @@ opening_retires f h id is_dropped =
       | inr retires ↦ retires
     ]
 
--- What a legal history retires, it leaves retired
+-- An identity that a legal history retires is still retired at its end
 
 retired_at : (f : Cnf) (p : LayoutValue) (m : State) (e : Event) (id : ℕ) (h : History)
     → LegalFrom f p m (e ∷ h) → IsRetireOf id e → IsRetired (after m e id)

@@ -52,7 +52,7 @@ readers_closed law p set observed streams match_inputs closed s stream member at
     let known = closed s was.observation member (at.0, was.at) in
     observed_within law p set was.observation known.0 stream was.matches_input known.1 known.2
 
--- how the reader ends if the stream has this end, or none
+-- how the reader ends if the stream has this end, or no known end
 abbrev pub EndsWith : Option StreamEnd → Option (List ℕ) → Bool → Type 0
 EndsWith its left has_failed = MatchOption its (has_failed ≡ false) (λ end. EndsSo end left has_failed)
 
@@ -104,7 +104,8 @@ closed_group law f run_params observed reports fits run set closed memory =
     law f run_params set run.history run.streams reports fits run.count run.legal
     (judged_fewer run_params (λ s. true) set run.history (λ s member. refl) 1 run.streams reports run.judged) closed memory
 
--- if one stream's report doesn't say that memory ran out, no report of the one-stream set does
+-- if one stream's report doesn't say that memory ran out, no report in the set of only this stream
+-- does
 alone_fine : (s : ℕ) (reports : List Report) (report : Report) → IsOfStream reports s report → ¬ IsExcused OutOfMemory report
     → NoneExcused (one s) OutOfMemory reports
 alone_fine s reports report says memory t other member there =
@@ -123,7 +124,8 @@ run_isolated law alone f run_params observed reports fits run = record {
 
 -- Two runs
 
--- a stream that cites within itself is a group of its own, unless memory ran out
+-- a stream that cites only its own clauses and the formula's is a group of its own, unless memory
+-- ran out
 run_alone : ClosedIsGroup → (f : Cnf) (run_params : RunParamsValue) (s : ℕ) (observed : List InputObservation) (reports : List Report)
     (stream : Stream) (report : Report) → Fits run_params.layout f → (a : IsRun f run_params observed reports)
     → IsOfStream a.streams s stream → IsOfStream reports s report → CiteWithin run_params.layout (one s) stream.bytes

@@ -1,4 +1,4 @@
--- The order of the lines of streams: each stream's blocks, taken from its judgement.
+-- The order of the streams' lines: each stream's blocks, taken from its judgement.
 use Rattle.std.proofs.Common.{◌≡◌, ◌+◌, ◌-◌, ◌<◌, ◌≤◌, ℕ, Bool, true, cond, eqb, List, [], ◌∷◌, map, length, Some, refl, sym}
 use Rattle.std.proofs.Common.{subst, ◌∙◌, inl, inr, arith, ne_eqb, eq-eqb}
 use Rattle.std.specs.Prelude.{IsTrue, slice_get}

@@ -1,4 +1,4 @@
--- Lines of several streams that are valid together, and their streams in a run.
+-- Lines of several streams that are valid together, and these streams in a run.
 use Rattle.std.proofs.Common.{◌≡◌, ◌≢◌, ◌⊎◌, ◌<◌, ◌≤◌, ◌+◌, ◌-◌, ℕ, zero, suc, Bool, true, false, cond, List, [], ◌∷◌, ◌++◌, length, map}
 use Rattle.std.proofs.Common.{Some, inl, inr, refl, sym, ap, subst, ◌∙◌, arith, append_assoc, append-nil, eqb, eqb-true, eq-eqb, ne_eqb}
 use Rattle.std.specs.Prelude.{IsTrue, slice_get, ◌&&◌}
@@ -117,7 +117,7 @@ module _ (taken : GoodLineTaken) (f : Cnf) (run_params : RunParamsValue)
     reaches = on.reaches;
   }
 
-  -- if the line's stream continues after the line, it also continues from before it
+  -- if a stream continues after its line, it also continues from that line on
   goes_with : (step : Step) (base : Database) (m : State) (track : Track) (steps : List Step) (order : List Block)
       → (g : Goes f (stream_params run_params step.stream) base track.going.context m step.line)
       → GoesOn run_params step.stream (after_line base step.line) (further run_params step g.block step.stream track) steps order
@@ -399,7 +399,7 @@ record AreJudgedTogether (f : Cnf) (run_params : RunParamsValue) (set : ℕ → 
       (each_from run_params.layout.streams 1 (its_report run_params steps))
   closed : IsClosed run_params.layout set (each_from run_params.layout.streams 1 (text_stream steps))
 
--- the bytes of the readers begin with those of the streams
+-- each reader's bytes begin with the bytes of its stream
 have_bytes : (p : LayoutValue) (set : ℕ → Bool) (steps : List Step) (observed : List InputObservation) → HaveTexts set steps observed
     → HaveBytesOf set (each_from p.streams 1 (text_stream steps)) observed
 have_bytes p set steps observed texts t x observation member at here =

@@ -1,4 +1,4 @@
--- A stream that ends when it is alone is valid.
+-- A stream that is reported as ended when checked on its own is valid.
 use Rattle.std.proofs.Common.{◌≡◌, ◌≢◌, ◌⊎◌, ◌++◌, ℕ, ℤ, Bool, true, false, cond, eqb, List, [], ◌∷◌, length, Option, Some, None, inl, inr}
 use Rattle.std.proofs.Common.{refl, sym, ap, subst, ◌∙◌, arith, append_assoc, append-nil, eq-eqb, ne_eqb, ltb, leb}
 use Rattle.std.specs.Prelude.{IsSome, ◌||◌, ◌&&◌, ◌==◌}

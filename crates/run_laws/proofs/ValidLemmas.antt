@@ -1,4 +1,4 @@
--- Valid proofs, alone and in a run.
+-- Valid proofs, on their own and in a run.
 use Rattle.std.proofs.Common.{◌≡◌, ◌≢◌, ◌<◌, ◌≤◌, ◌+◌, ◌-◌, ℕ, zero, suc, Bool, true, false, cond, List, [], ◌∷◌, ◌++◌, length, Some, None}
 use Rattle.std.proofs.Common.{inl, inr, refl, sym, ap, subst, ◌∙◌, arith, append_assoc, append-nil, eq-eqb, ltb, ltb-true, leb, leb-true}
 use Rattle.std.specs.Prelude.{IsTrue, slice_get, ◌&&◌}
@@ -247,7 +247,7 @@ module _ (taken : GoodLineTaken) (fresh : FreshLeft) (ends : EndJudged)
         on.callers,
       )
 
-  -- A stream alone
+  -- A stream on its own
 
   pub valid_accepted : ValidAccepted
   valid_accepted f run_params s bytes lines cnf fits stream valid =

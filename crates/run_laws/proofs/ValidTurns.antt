@@ -33,7 +33,7 @@ not_memory : (run_params : RunParamsValue) (steps : List Step) (t : ℕ) (report
 not_memory run_params steps t report is memory =
     let no : endings.Ended ≡ endings.Memory memory.0 = ap (λ (r : Report). r.ending) is ∙ memory.1 in cc
 
--- if valid lines take the streams in turn, so does their order
+-- if valid lines take the streams in turn, so does the order of their blocks
 valid_order_round_robin : (f : Cnf) (run_params : RunParamsValue) (steps : List Step) (order : List Block)
     → IsOrderOf f run_params steps order
     → IsRoundRobin (map (λ step. step.stream) steps)

@@ -1,5 +1,5 @@
--- The verdict of an order of lines: some stream says that it added the empty clause, or one within
--- the cube, exactly if the order publishes such a clause.
+-- The verdict of an order of lines: some stream says that it added the empty clause, or a clause
+-- within the cube, exactly if the order publishes such a clause.
 use Rattle.std.proofs.Common.{◌≡◌, ◌||◌, ◌+◌, ◌-◌, ◌<◌, ◌≤◌, ℕ, zero, suc, ℤ, Bool, true, false, List, [], ◌∷◌, ◌++◌, length, refl, sym, ap}
 use Rattle.std.proofs.Common.{subst, ◌∙◌, inl, inr, arith}
 use Rattle.std.specs.Prelude.{◌==◌}
@@ -46,9 +46,9 @@ both_ways false false to back = refl
 
 -- What a test is about
 
--- Tests of events, additions and reports that agree: no fetch or retire passes, the publish of an
--- addition passes exactly if the addition does, and a report passes exactly if a good addition
--- does.
+-- Three tests that agree, of events, of additions and of reports: no fetch or retire passes, the
+-- publish of an addition passes exactly if the addition does, and a report passes exactly if a good
+-- addition does.
 record CallerStep (c : StreamParams) (passes : Event → Bool) (adds : ℕ × Clause → Bool) (says : Report → Bool) : Type 0 where
   fetches_none : (id : ℕ) (r : Reply) → passes (events.fetch c.stream id r) ≡ false
   retires_none : (id : ℕ) (r : Retired) → passes (events.retire c.stream id r) ≡ false

@@ -1,5 +1,5 @@
--- The order of lines, from one walk along a history from its end: an event joins its stream's next
--- block, or begins a block.
+-- The order of lines, made by one walk along a history, from end to start: an event joins its
+-- stream's next block, or begins a block.
 use Rattle.std.proofs.Common.{◌≡◌, ◌&&◌, ℕ, Bool, true, false, not, List, [], ◌∷◌, ◌++◌, map, refl, sym, ap, subst, ◌∙◌, inl, inr}
 use Rattle.std.specs.List.{AllByRecursion, list_all}
 use Rattle.std.proofs.lemmas.Bool.{cases_eq, cases_Bool, true≢false}
@@ -33,8 +33,8 @@ reduced-one (events.fetch s id events.retired) = refl
 reduced-one (events.publish s id c r) = refl
 reduced-one (events.retire s id r) = refl
 
--- if a line repeats a fetch of an identity, and all its events are vacant fetches, the first is
--- this fetch
+-- if a line starts with a fetch of an identity, and all its events are vacant fetches, the first
+-- event is a vacant fetch of that identity
 same_fetch : (s id : ℕ) (d : Event) (es : History) → stream_of d ≡ s → StartsWithFetchOf id (d ∷ es) → list_all is_vacant (d ∷ es) ≡ true
     → d ≡ events.fetch s id events.vacant
 same_fetch s id (events.fetch t j events.vacant) es caller is all = ap (λ (i : ℕ). events.fetch i j events.vacant) caller
@@ -64,7 +64,8 @@ again-tail (events.retire s id r) es again = again
 -- An event that is the first of a longer line
 
 module _ (f : Cnf) (p : LayoutValue) (final m : State) where
-  -- if the line's first event is kept, the order's lines have it in front of the events after it
+  -- if reducing a line keeps its first event, joining this event to an order of the lines without
+  -- it gives an order of all lines
   lines-join : (rest : Lines) (e d : Event) (b : History) (more : List History) (blocks : List Block)
       → rest (stream_of e) ≡ (e ∷ d ∷ b) ∷ more → reduced (e ∷ d ∷ b) ≡ e ∷ reduced (d ∷ b)
       → ((t : ℕ) → blocks_of t blocks ≡ map reduced (with rest (stream_of e) ((d ∷ b) ∷ more) t))

@@ -12,11 +12,11 @@ use Rattle.stream_check.specs.SequentialConsistency.{AreJudgedIn}
 use Rattle.stream_check.specs.Streams.{Stream, InputObservation, RunParamsValue, stream_params}
 use Rattle.run_laws.specs.Groups.{IsRun}
 
--- Valid in any run: if a legal history judges a closed set of streams, and one of them ended there,
--- this stream has the same report in every run in which its reader has the stream's bytes and the
--- readers of the set's other streams have at least the bytes of those streams, unless memory ran
--- out, or a read failed, or a line of the stream cites another stream's clause that wasn't there
--- yet or was no longer there.
+-- Valid in any run. Suppose that a legal history judges a closed set of streams, and that one of
+-- these streams ended. Then this stream has the same report in every run in which its reader has
+-- the stream's bytes and the readers of the set's other streams have at least those streams' bytes,
+-- unless memory ran out, or a read failed, or a line of the stream cites another stream's clause
+-- that wasn't there yet or was no longer there.
 abbrev pub ValidInAnyRun : Type 0
 ValidInAnyRun = (formula : Cnf) (run_params : RunParamsValue) (set : ℕ → Bool) (history : History)
     (streams : List Stream) (reports : List Report) (observed : List InputObservation)

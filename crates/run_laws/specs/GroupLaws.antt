@@ -18,12 +18,14 @@ use Rattle.run_laws.specs.Groups.{one, AreClosedReaders, NoneExcused, IsGroup, A
 
 -- Closed sets
 
--- if the lines of some bytes cite within a set, so do the lines of a prefix of the bytes
+-- if no line in some bytes cites an identity of a stream outside a set, no line in a prefix of the
+-- bytes does
 abbrev pub BeginningsWithin : Type 0
 BeginningsWithin = (p : LayoutValue) (set : ℕ → Bool) (bytes more : List ℕ)
     → CiteWithin p set (bytes ++ more) → CiteWithin p set bytes
 
--- a set is closed if all bytes that its readers have at the start cite within the set
+-- a set is closed if no line in the bytes that its streams' readers have at the start cites an
+-- identity of a stream outside the set
 abbrev pub ReadersClosed : Type 0
 ReadersClosed =
     (p : LayoutValue) (set : ℕ → Bool) (observed : List InputObservation) (streams : List Stream)
@@ -76,7 +78,7 @@ RunIsolated = (f : Cnf) (run_params : RunParamsValue) (observed : List InputObse
     → Fits run_params.layout f → (run : IsRun f run_params observed reports) → AreIsolated run
 
 -- if a stream was stopped early, its report says neither that the stream ended nor that a read
--- failed: it has a bad line, or memory ran out
+-- failed: a line is bad, or memory ran out
 abbrev pub EarlyIsDecided : Type 0
 EarlyIsDecided = (c : StreamParams) (stream : Stream) (blocks : List History) (report : Report)
     → stream.end ≡ None → JudgesStream c stream blocks report
@@ -105,9 +107,9 @@ FailedIsReading = (observed : List InputObservation) (streams : List Stream) (s 
     → observation.has_failed ≡ true
     → IsReadingOf whole stream_ends.Failed stream
 
--- In two runs of one formula with the same parameters, a stream that cites within itself has the
--- same report if it is a reading of the same bytes and end in both, unless memory ran out. The
--- other streams and the use of threads make no difference.
+-- In two runs of one formula with the same parameters, a stream that cites only its own clauses and
+-- the formula's has the same report if it is a reading of the same bytes and end in both, unless
+-- memory ran out. The other streams and the use of threads make no difference.
 abbrev pub SameReadingAgrees : Type 0
 SameReadingAgrees =
     (f : Cnf) (run_params : RunParamsValue) (s : ℕ) (whole : List ℕ) (end : StreamEnd)
@@ -122,9 +124,9 @@ SameReadingAgrees =
     → IsOfStream reports s report → IsOfStream other_reports s other_report
     → ¬ IsExcused OutOfMemory report → ¬ IsExcused OutOfMemory other_report → report ≡ other_report
 
--- In two runs of one formula with the same parameters, a stream that cites within itself has the
--- same report if both readers have the same bytes at the start, unless memory ran out or a read
--- failed.
+-- In two runs of one formula with the same parameters, a stream that cites only its own clauses and
+-- the formula's has the same report if both readers have the same bytes at the start, unless memory
+-- ran out or a read failed.
 abbrev pub SameBytesAgree : Type 0
 SameBytesAgree = (f : Cnf) (run_params : RunParamsValue) (s : ℕ) (whole : List ℕ)
     (observed other_observed : List InputObservation)

@@ -40,8 +40,8 @@ one s = λ t. t == s
 
 -- Closed sets
 
--- the bytes that each reader of the set's streams has at the start are known, and cite within the
--- set
+-- the bytes that each reader of the set's streams has at the start are known, and no line in them
+-- cites an identity of a stream outside the set
 abbrev pub AreClosedReaders : LayoutValue → (ℕ → Bool) → List InputObservation → Type 0
 AreClosedReaders layout set observed =
     (s : ℕ) (observation : InputObservation) → IsTrue (set s) → IsOfStream observed s observation
@@ -58,7 +58,7 @@ IsReadingOf whole end stream =
 
 -- Groups
 
--- no report of the set has this excuse
+-- no report of a stream of the set has this excuse
 abbrev pub NoneExcused : (ℕ → Bool) → Excuse → List Report → Type 0
 NoneExcused set excuse reports = (s : ℕ) (report : Report) → IsTrue (set s)
     → IsOfStream reports s report → ¬ IsExcused excuse report

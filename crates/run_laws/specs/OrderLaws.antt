@@ -36,8 +36,8 @@ RetiresOnly p (events.fetch s id r) = Unit {0}
 RetiresOnly p (events.publish s id c r) = Unit {0}
 RetiresOnly p (events.retire s id r) = IsTrue (p id)
 
--- A stream retires only identities that its lines delete: if all that they delete pass a test, so
--- do all that the stream retires.
+-- A stream retires only identities that its lines delete: if all identities that the lines delete
+-- pass a test, so do all that the stream retires.
 abbrev pub DeletedRetired : Type 0
 DeletedRetired = (c : StreamParams) (bytes : List ℕ) (end : StreamEnd) (blocks : List History)
     (report : Report)
@@ -48,8 +48,8 @@ DeletedRetired = (c : StreamParams) (bytes : List ℕ) (end : StreamEnd) (blocks
 
 -- An order of lines
 
--- If the streams of a set find no clause of a stream outside the set, and no clause of another
--- stream that they find live is retired in the end, their lines have an order.
+-- If the streams of a set find no clause of a stream outside the set, and no clause that one of
+-- them finds live and doesn't own is retired in the end, their lines have an order.
 abbrev pub LinesOrdered : Type 0
 LinesOrdered = (f : Cnf) (p : LayoutValue) (set : ℕ → Bool) (h : History) (blocks : ℕ
     → List History)
@@ -59,8 +59,8 @@ LinesOrdered = (f : Cnf) (p : LayoutValue) (set : ℕ → Bool) (h : History) (b
     → FoundStays f p set h
     → (order : List Block) × IsOrder f p set blocks order
 
--- If one legal history judges a closed set of streams, and no clause of another stream that they
--- find live is retired in the end, their reports have an order of lines.
+-- If one legal history judges a closed set of streams, and no clause that one of them finds live
+-- and doesn't own is retired in the end, their reports have an order of lines.
 abbrev pub ClosedOrdered : Type 0
 ClosedOrdered = (f : Cnf) (run_params : RunParamsValue) (set : ℕ → Bool) (h : History)
     (streams : List Stream) (reports : List Report)
@@ -73,7 +73,7 @@ ClosedOrdered = (f : Cnf) (run_params : RunParamsValue) (set : ℕ → Bool) (h 
 abbrev pub AllClosed : Type 0
 AllClosed = (p : LayoutValue) (streams : List Stream) → IsClosed p (λ s. true) streams
 
--- If no clause of another stream that a stream finds live is retired in the end, the reports of all
+-- If no clause that a stream finds live and doesn't own is retired in the end, the reports of all
 -- streams have an order of lines with the verdict of the reports: some report says that its stream
 -- added the empty clause exactly if the order publishes the empty clause, and the same holds for
 -- clauses within the cube.
@@ -95,7 +95,7 @@ KeptByEvents = (f : Cnf) (p : LayoutValue) (h : History) → IsLegal f p h
     → (e : Event) → FindsKept p (state f h) e ↔ FindsUnretired p h e
 
 -- if the history retires no identity that a stream of the set found, live or retired, and doesn't
--- own, then what the set's streams found live from one another stays live
+-- own, then each clause that a stream of the set found live and doesn't own stays live
 abbrev pub OwnersAloneSuffices : Type 0
 OwnersAloneSuffices = (f : Cnf) (p : LayoutValue) (set : ℕ → Bool) (h : History)
     → IsLegal f p h
@@ -103,7 +103,7 @@ OwnersAloneSuffices = (f : Cnf) (p : LayoutValue) (set : ℕ → Bool) (h : Hist
     → FoundStays f p set h
 
 -- if no stream of a closed set deletes a clause of its own that another stream of the set cites,
--- what they found live from one another stays live
+-- each clause that a stream of the set found live and doesn't own stays live
 abbrev pub SharedStays : Type 0
 SharedStays =
     (f : Cnf) (run_params : RunParamsValue) (set : ℕ → Bool) (h : History) (streams : List Stream)
@@ -120,8 +120,8 @@ BeginningsCite = (bytes more : List ℕ) (id : ℕ)
     → (Cites bytes id → Cites (bytes ++ more) id)
     × (SomeLineDeletes bytes id → SomeLineDeletes (bytes ++ more) id)
 
--- If no stream of a set deletes a clause that another one cites, judged by all bytes that their
--- readers have at the start, then none does in the bytes that were needed.
+-- If no stream of a set deletes a clause that another stream of the set cites, judged by all bytes
+-- that their readers have at the start, then no stream does so in the bytes that were needed.
 abbrev pub ReadersShare : Type 0
 ReadersShare =
     (p : LayoutValue) (set : ℕ → Bool) (observed : List InputObservation) (streams : List Stream)

@@ -39,10 +39,10 @@ HaveTexts set steps observed =
     → (more : List ℕ)
     × (observation.entry ≡ Some (flat_map line_text (lines_by t steps) ++ more))
 
--- If lines of a set of streams have a valid order, then in every run of these streams the report of
--- each one says at least what the report of its lines says, unless memory ran out or a read failed
--- in these lines, or one of them cites another stream's clause that wasn't there yet or was no
--- longer there. The streams outside the set, and what comes after the lines, make no difference.
+-- If lines of a set of streams have a valid order, then in every run of these streams each stream's
+-- report says at least what the report of its lines says, unless memory ran out or a read failed in
+-- these lines, or one of them cites another stream's clause that wasn't there yet or was no longer
+-- there. The streams outside the set, and what comes after the lines, make no difference.
 abbrev pub TogetherBegins : Type 0
 TogetherBegins = (formula : Cnf) (run_params : RunParamsValue) (set : ℕ → Bool) (steps : List Step)
     (observed : List InputObservation) (reports : List Report) (s : ℕ) (report : Report)

@@ -1,4 +1,4 @@
--- Valid proofs: what a stream that cites only its own clauses and the formula's has to write. The
+-- Valid proofs: what has to be in a stream that cites only its own clauses and the formula's. The
 -- lines are replayed over a database of clauses, as LRAT proofs are (Cruz-Filipe et al., CADE
 -- 2017), without RAT. This project's own are identities by residue, each above the earlier ones;
 -- room; imports; and the rules that no hint comes after the conflict and that only existing clauses
@@ -37,7 +37,7 @@ first_database formula layout = record {
   free = layout.room;
 }
 
--- after a line: an addition puts its clause at its identity, with each literal once; a deletion
+-- after a line: an addition puts its clause under its identity, with each literal once; a deletion
 -- removes clauses; an import changes nothing
 abbrev pub after_line : Database → StreamLine → Database
 after_line base (Addition id lits hints) = record {
@@ -74,7 +74,7 @@ IsValidLine layout s base (Import id lits) =
 
 -- Lines of several streams, in some order. Each stream has a database.
 
--- a line, and the number of the stream that wrote it, counting from 1
+-- a line, and the number (from 1) of the stream that wrote it
 pub record Step : Type 0 where
   pub stream : ℕ
   pub line : StreamLine
@@ -147,7 +147,7 @@ pub record IsValidRefutation (formula : Cnf) (layout : LayoutValue) (s : ℕ)
 abbrev pub valid_report : RunParamsValue → ℕ → List StreamLine → Report
 valid_report run_params s lines = report_of (stream_params run_params s) lines 0 endings.Ended
 
--- the report says at least what the other one does, with any ending
+-- the report says at least what the other one says; the endings may differ
 pub record SaysAtLeast (report least : Report) : Type 0 where
   pub added : least.added ≤ report.added
   pub deleted : least.deleted ≤ report.deleted

@@ -7,8 +7,8 @@ use stream_check::laws::{
     alone_decides, cited_fetched, decided_before_failure, end_judged, finished_stays, fresh_left,
 };
 
-/// If the lines of some bytes cite within a set of streams, so do the lines of a prefix of the
-/// bytes.
+/// If the lines of some bytes cite no identity of a stream outside a set of streams, neither do the
+/// lines of a prefix of the bytes.
 pub fn beginnings_within()
     ensures { BeginningsWithin }
 {
@@ -16,7 +16,8 @@ pub fn beginnings_within()
     a_beginning_is_cut_alike();
 }
 
-/// A set of streams is closed if all bytes that its readers have left at the start cite within it.
+/// A set of streams is closed if, in the bytes that its streams' readers have at the start, no line
+/// cites an identity of a stream outside the set.
 pub fn readers_closed()
     ensures { ReadersClosed }
 {
@@ -71,8 +72,8 @@ pub fn failed_is_reading()
     ensures { FailedIsReading }
 {}
 
-/// In two runs, a stream that cites within itself has the same report if the readers delivered the
-/// same bytes and end, unless memory ran out.
+/// In two runs, a stream that cites only its own clauses and the formula's has the same report if
+/// its readers delivered the same bytes and end, unless memory ran out.
 pub fn same_reading_agrees()
     ensures { SameReadingAgrees }
 {
@@ -81,8 +82,8 @@ pub fn same_reading_agrees()
     alone_has_one_report();
 }
 
-/// In two runs, a stream that cites within itself has the same report if its readers have the same
-/// bytes left at the start, unless memory ran out or a read failed.
+/// In two runs, a stream that cites only its own clauses and the formula's has the same report if
+/// its readers have the same bytes at the start, unless memory ran out or a read failed.
 pub fn same_bytes_agree()
     ensures { SameBytesAgree }
 {

@@ -45,7 +45,7 @@ pub fn all_closed()
 }
 
 /// If each clause of another stream that a stream finds live stays live, the reports have an order
-/// of lines, and the order has the reports' verdict.
+/// of lines, and that order gives the same verdict as the reports.
 pub fn all_ordered()
     ensures { AllOrdered }
 {
@@ -85,8 +85,8 @@ pub fn beginnings_cite()
     every_stream_is_cut();
 }
 
-/// If no stream deletes a clause that another one cites, judged by all bytes that their readers
-/// have at the start, then none does in the bytes that were needed.
+/// Suppose that, in all bytes that the readers have at the start, no stream deletes a clause that
+/// another stream cites. Then the same is true of the bytes that were needed.
 pub fn readers_share()
     ensures { ReadersShare }
 {

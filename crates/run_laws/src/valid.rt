@@ -99,11 +99,11 @@ pub fn valid_empty()
     ensures { ValidEmpty }
 {}
 
-/// Suppose that a closed set of streams is judged by a legal history, and that one of them ended
-/// there. This stream has the same report in every run in which its reader has the stream's bytes,
-/// and the readers of the set's other streams have at least the bytes of those streams, unless
-/// memory ran out, or a read failed, or a line of the stream cites another stream's clause that
-/// wasn't there yet or was no longer there.
+/// Suppose that a closed set of streams is judged by a legal history, and that one of these streams
+/// is reported as ended. This stream has the same report in every run in which its reader has the
+/// stream's bytes, and the readers of the set's other streams have at least the bytes of those
+/// streams, unless memory ran out, or a read failed, or a line of the stream cites another stream's
+/// clause that wasn't there yet or was no longer there.
 pub fn valid_in_any_run()
     ensures { ValidInAnyRun }
 {

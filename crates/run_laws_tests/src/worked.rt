@@ -69,8 +69,8 @@ fn additions_are_not_valid()
         (Addition 5 (pos 1 ∷ negsuc 0 ∷ []) (1 ∷ 2 ∷ [])) }
 {}
 
-/// Additions aren't valid for these reasons, even if nothing else is wrong. Deleting a clause gives
-/// no room back.
+/// Each of these faults makes an addition invalid, even if nothing else is wrong. Deleting a clause
+/// gives no room back.
 fn nothing_else_is_wrong()
     ensures again { ¬ IsValidLine one_stream 1 with_five (Addition 5 [] (5 ∷ 3 ∷ 4 ∷ [])) }
     ensures variable { ¬ IsValidLine roomy 1 with_repeat
@@ -170,9 +170,9 @@ fn shared_lines_are_counted()
     valid_together();
 }
 
-/// Stream 1 comes first, then stream 2, and so on, round-robin; a stream that has no line left
-/// drops out. It isn't round-robin if stream 1 comes later, takes two lines in a row while another
-/// has lines, or is left out.
+/// In a round-robin order, stream 1 comes first, then stream 2, and so on; a stream that has no
+/// line left drops out. An order isn't round-robin if stream 1 comes later, or if a stream takes
+/// two lines in a row while another has lines, or is left out.
 fn lines_go_round()
     ensures round { IsRoundRobin (1 ∷ 2 ∷ 1 ∷ []) }
     ensures late { ¬ IsRoundRobin (2 ∷ 1 ∷ []) }

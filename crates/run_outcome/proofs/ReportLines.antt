@@ -32,7 +32,7 @@ lines_append s (x ∷ xs) ys =
     ap (λ t. stream_line s x ++ t) (lines_append (s + 1) xs ys ∙ ap (λ n. stream_lines (s + 1) xs ++ stream_lines n ys) next)
     ∙ sym (append_assoc (stream_line s x) (stream_lines (s + 1) xs) (stream_lines (s + length (x ∷ xs)) ys))
 
--- the lines of the first k + 1 reports are those of the first k, followed by one more
+-- the lines of the first k + 1 reports are the lines of the first k, followed by one more line
 pub lines_more : (rs : List Report) (k : ℕ) (d : Report) → k < length rs
     → stream_lines 1 (take (k + 1) rs) ≡ stream_lines 1 (take k rs) ++ stream_line (k + 1) (get_or rs k d)
 lines_more rs k d inside =

@@ -39,7 +39,7 @@ are_fetches : (s id : ℕ) (replies : List Reply) → AllByRecursion IsFetch (fe
 are_fetches s id [] = tt
 are_fetches s id (r ∷ replies) = (tt, are_fetches s (id + 1) replies)
 
--- what holds for a stream's events holds for those after the history's first event
+-- what holds for a stream's events holds for its events after the history's first event
 own_rest : (P : Event → Type 0) (e : Event) (h : History) (s : ℕ) → AllByRecursion P (own (e ∷ h) s)
     → AllByRecursion P (own h s)
 own_rest P e h s all =
@@ -139,7 +139,8 @@ last_count : (vs : List View) (v : View) → length (vs ++ v ∷ []) ≡ length 
 last_count [] v = refl
 last_count (w ∷ vs) v = omega (arith, last_count vs v)
 
--- a stream whose events in a whole history are those in a prefix has none after the prefix
+-- if a stream's events in a prefix are all its events in the history, it has no events after the
+-- prefix
 own_none_after : (h more : History) (s : ℕ) → own (h ++ more) s ≡ own h s → own more s ≡ []
 own_none_after h more s same =
     append_cancel_left (own h s) (own more s) [] (sym (own-append h more s) ∙ same ∙ sym (append-nil (own h s)))
@@ -193,7 +194,7 @@ fetched_so f p h vs v w replies us g one moves synced saw =
     ] in
     answered_after f p h more s replies legal owners mine
 
--- the passes are still those of the store if the last one is replaced by another pass of the store
+-- the passes still belong to the store if the last one is replaced by another pass of the store
 pub other_last : (store : StoreValue) (ps : List PassValue) (p q : PassValue) → AreOf store (ps ++ p ∷ []) → store_of q ≡ store_of p
     → AreOf store (ps ++ q ∷ [])
 other_last store [] p q all same = (same ∙ all.0, tt)

@@ -15,7 +15,7 @@ ending_text (endings.Bad line fault) =
 ending_text (endings.ReadFailed line) = codes "read failed at line " ++ decimal line
 ending_text (endings.Memory line) = codes "out of memory at line " ++ decimal line
 
--- these words, the number of a stream, counting from 1, and the stream's report, ended by LF
+-- these words, the number of a stream (from 1), and the stream's report, ended by LF
 abbrev pub line_after : List ℕ → ℕ → Report → List ℕ
 line_after words s report =
     words ++ decimal s ++ codes ": " ++ decimal report.added ++ codes " added, "

@@ -9,9 +9,9 @@ use Rattle.stream_check.specs.DroppedIdsValue.{DroppedIdsValue}
 use Rattle.stream_check.specs.declared.report.Report.{Report}
 use Rattle.run_outcome.specs.Histories.{IsRunOfSome}
 
--- A run that the ring of this stream stopped. The streams before this one are a run on what their
--- readers gave, with some reports. The reader of this stream, like theirs, was read to its end, or
--- to a read that failed, and what is known about the reader and its reads makes a stream.
+-- A run that the ring of this stream stopped. The streams before this one form a run on what their
+-- readers delivered, for some reports. The reader of this stream, like theirs, was read to its end,
+-- or to a read that failed, and some stream matches what is known about the reader and its reads.
 pub record StopsAtRing {S : Type 0} (view : SourceView S) (formula : Cnf)
     (run_params : RunParamsValue) (firsts : List S) (stream : ℕ) : Type 0 where
   pub is_stream : IsStream run_params.layout stream

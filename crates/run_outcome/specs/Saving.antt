@@ -21,10 +21,10 @@ use Rattle.run_outcome.specs.declared.saving.Clauses.TheVariants as clauses
 abbrev pub is_wanted : List DroppedIdsValue → ℕ → Bool
 is_wanted dropped id = length dropped == 0 || list_any (λ d. not (is_among d.ids id)) dropped
 
--- An attempt to save the clauses that are wanted, and live in this state of the clause map. The
--- replies are the state's answers to fetches of the identities from 1 on, for any stream. Either
--- all identities were fetched, and the live and wanted clauses were saved, as the result says; or
--- memory ran out before the first write.
+-- An attempt to save the clauses that are wanted, and that are live in this state of the clause
+-- map. The replies are the state's answers to fetches of the identities from 1 on, for any stream.
+-- Either all identities were fetched, and the live and wanted clauses were saved, as the result
+-- says; or memory ran out before the first write.
 pub record SavesState {S : Type 0} (written : S → Option (List ℕ))
     (result : Result (Option Cnf) SaveFault) (slots : State) (layout : LayoutValue)
     (wants : ℕ → Bool)

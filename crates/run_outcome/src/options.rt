@@ -36,7 +36,7 @@ impl Options {
     /// The largest number of tries.
     pub const MAX_TRIES: u64 = Checker::MAX_TRIES;
 
-    /// Options by which a vacant hint is fetched again up to `tries` times, and each stream has
+    /// Options with which a vacant hint is fetched again up to `tries` times, and each stream has
     /// `lines` identities and room for `room` literals. `None` exactly if `tries` is above
     /// 1,000,000. `layout` says whether a formula and a number of streams fit.
     pub fn new(tries: u64, lines: u64, room: u64) -> Option<Options>

@@ -14,7 +14,7 @@ pub enum Verdict {
     /// No assignment satisfies the formula: a stream added the empty clause.
     Unsatisfiable,
     /// No assignment satisfies the formula together with all literals of the cube: a stream added a
-    /// clause that the cube falsifies, and none added the empty clause.
+    /// clause that the cube falsifies, and no stream added the empty clause.
     UnsatisfiableUnder,
     /// No stream added such a clause. This says nothing about the formula.
     Unknown,

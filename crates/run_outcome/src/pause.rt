@@ -1,4 +1,4 @@
-//! The gate that makes a stream wait for what others haven't published yet.
+//! The gate that makes a stream wait for clauses that others haven't published yet.
 use lrup_model::Id;
 use std::thread;
 use std::time::{Clock, Duration};

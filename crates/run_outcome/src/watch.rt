@@ -117,7 +117,7 @@ impl<C: Clock + Drop, S: Sink + Drop> Reporter<C, S> {
 
 /// A gate that reports progress on a sink while a stream is checked: that a hint has been vacant
 /// for a second; about every ten seconds, how many clauses were added; and at the end, the stream's
-/// report. It leaves the waiting to the inner gate. Without a sink it only forwards its calls to
+/// report. It leaves the waiting to the inner gate. Without a sink it only forwards each call to
 /// the inner gate. So a run has the same type of gate, watched or not, and the checker is compiled
 /// once, with its calls inlined.
 #[derive(Drop)]

@@ -45,13 +45,13 @@ spent-fetches s (events.retire t id r ∷ es) h = absurd h.0
 pub room_stays : (p q : CallerView) (es : History) → CallerStep p q es → AllByRecursion IsFetch es → q.room ≡ p.room
 room_stays p q es step quiet = omega (arith, step.room, spent-fetches p.caller.stream es quiet)
 
--- an identity of the stream's own is also the caller's own, in a view of the stream
+-- in a view of the stream, an identity that the stream owns is also the caller's own
 pub owns_at : (c : StreamParams) (p : CallerView) (id : ℕ) → IsViewOf c p → Owns c.layout c.stream id
     → Owns p.caller.layout p.caller.stream id
 owns_at c p id at owns =
     subst (λ (l : LayoutValue). Owns l p.caller.stream id) (sym at.layout) (subst (λ (s : ℕ). Owns c.layout s id) (sym at.stream) owns)
 
--- an identity of the caller's own, in a view of the stream, is also the stream's own
+-- in a view of the stream, an identity that the caller owns is also the stream's own
 pub owned_by : (c : StreamParams) (p : CallerView) (id : ℕ) → IsViewOf c p → Owns p.caller.layout p.caller.stream id
     → Owns c.layout c.stream id
 owned_by c p id at owns =
@@ -72,7 +72,7 @@ variables_within vars (l ∷ ls) all = (all.0.1, variables_within vars ls all.1)
 
 -- The conditions of the publish
 
--- after the hints, the clause of the marks is the addition's
+-- after the hints, the clause of the marks is the addition's clause
 pub clause_is : (c : StreamParams) (st : StreamContext) (id : ℕ) (lits : List ℤ) (old new : Propagation) (clause : Clause)
     → Admits c st id lits old
     → KeepsClause old new → clause ≡ new.clause → clause ≡ distinct lits

@@ -288,7 +288,7 @@ import_agrees c st id lits es fs q r (Bad m v) (Bad n w) a b never =
       ]
     ]) a b) a.1 b.1)
 
--- two judgements of one line after the same lines agree, whatever events come after it
+-- two judgements of one line after the same lines agree, whatever events come after the line
 pub line_agrees : (c : StreamParams) (st : StreamContext) (line : StreamLine) (es fs q r : History) (v w : LineVerdict)
     → JudgesLine c st line es v → JudgesLine c st line fs w → NeverFork (es ++ q) (fs ++ r) → Agree es v fs w
 line_agrees c st (Addition id lits hints) es fs q r v w a b never = addition_agrees c st id lits hints es fs q r v w a b never

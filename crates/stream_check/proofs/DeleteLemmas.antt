@@ -34,7 +34,8 @@ own_bool false true false true h = sym (h refl)
 own_bool false true false false h = refl
 own_bool false false e b h = refl
 
--- one more identity was deleted: a shared one is dropped, one of the stream's own isn't
+-- one more identity was deleted: a shared identity is dropped, an identity of the stream's own
+-- isn't
 dropped_shared : (c : StreamParams) (first earlier old new : List ℕ) (id : ℕ) → is_shared (ownership_of c id) ≡ true
     → AreDropped c first earlier old
     → ((j : ℕ) → is_among new j ≡ (is_among old j || id == j)) → AreDropped c first (earlier ++ id ∷ []) new
@@ -164,7 +165,7 @@ goes_on c first earlier old new id es fs before dropped deletes more rest v judg
     (subst (λ (ids : List ℕ). JudgesDeletion c (is_among first) [] ids (es ++ (fs ++ rest)) v) (sym (append_assoc earlier (id ∷ []) more))
     (before (id ∷ more) (fs ++ rest) v here))
 
--- a list is the elements before one of them, that element, and those after it
+-- a list consists of the elements before an index, the element there, and the elements after it
 pub among_ids : (ids : List ℕ) (i : ℕ) → i < length ids → ids ≡ take i ids ++ get_or ids i 0 ∷ drop (i + 1) ids
 among_ids ids i lt = sym (take-append-drop i ids) ∙ ap (λ (js : List ℕ). take i ids ++ js) (rw (add-one, drop-cons ids i 0) refl)
 
@@ -175,7 +176,7 @@ good_front c first earlier es before =
     subst (λ (ids : List ℕ). JudgesDeletion c (is_among first) [] ids es Good) (append-nil earlier)
     (subst (λ (x : History). JudgesDeletion c (is_among first) [] (earlier ++ []) x Good) (append-nil es) (before [] [] Good (refl, refl)))
 
--- the deletion stops at an identity, because the identity is bad or there is no memory for it
+-- the deletion stops at an identity, because the identity is bad or memory runs out
 pub stopped_deletion : (c : StreamParams) (first earlier old new : List ℕ) (id : ℕ) (later ids : List ℕ) (es fs : History) (stop : LineStop)
     → ids ≡ earlier ++ id ∷ later → GoesOn c first earlier es → AreDropped c first earlier old
     → DeletesOne c id old new fs (Err stop) → Deletes c first new ids (es ++ fs) (length earlier) (Err stop)

@@ -136,7 +136,7 @@ take_more c n m is_dropped earlier id many stays new now are = record {
 
 -- What a deletion took
 
--- a good deletion took all its identities, a bad one those before the fault
+-- a good deletion took all its identities; a bad deletion took those before the fault
 abbrev pub Took : StreamParams → State → (ℕ → Bool) → List ℕ → List ℕ → ℕ → History → LineVerdict → Type 0
 Took c n is_dropped earlier ids many es Good = AreTaken c (run n es) is_dropped (earlier ++ ids) (many + length ids)
 Took c n is_dropped earlier ids many es (Bad deleted fault) =
@@ -157,7 +157,7 @@ took_failed : (c : StreamParams) (n : State) (is_dropped : ℕ → Bool) (earlie
 took_failed c n is_dropped earlier ids many es v fault bad are =
     subst (λ w. Took c n is_dropped earlier ids many es w) (sym bad) (n, earlier, many, are, refl)
 
--- what was taken after the first identity gives what was taken from that identity on
+-- `Took` after the first identity implies `Took` from that identity on
 took_back : (c : StreamParams) (n : State) (is_dropped : ℕ → Bool) (earlier : List ℕ) (id : ℕ) (ids : List ℕ) (many : ℕ) (es : History)
     (v : LineVerdict)
     → Took c n is_dropped (earlier ++ id ∷ []) ids (many + 1) es v → Took c n is_dropped earlier (id ∷ ids) many es v
@@ -167,7 +167,7 @@ took_back c n is_dropped earlier id ids many es Good took =
 took_back c n is_dropped earlier id ids many es (Bad deleted fault) took =
     (took.0, took.1, took.2, took.3, omega (arith, took.4, length-append earlier (id ∷ [])))
 
--- what was taken after the first event gives what was taken from that event on
+-- `Took` after the first event implies `Took` from that event on
 took_later : (c : StreamParams) (n : State) (is_dropped : ℕ → Bool) (earlier ids : List ℕ) (many : ℕ) (e : Event) (es rest : History)
     (v : LineVerdict)
     → es ≡ e ∷ rest → Took c (after n e) is_dropped earlier ids many rest v → Took c n is_dropped earlier ids many es v
@@ -180,7 +180,7 @@ live_not_retired absent a b = a
 live_not_retired (live d) a b = b
 live_not_retired (retired d) a b = a
 
--- one of the stream's own identities that was live is retired, and so is taken
+-- if one of the stream's own identities was live and is retired, it is taken
 took_own : (c : StreamParams) (n : State) (is_dropped : ℕ → Bool) (earlier : List ℕ) (id many : ℕ) → ownership_of c id ≡ ownerships.Own
     → OwnAnswers n (events.retire c.stream id retiring.Done)
     → AreTaken c n is_dropped earlier many → AreTaken c (after n (events.retire c.stream id retiring.Done)) is_dropped (earlier ++ id ∷ [])

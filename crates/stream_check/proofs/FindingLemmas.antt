@@ -21,7 +21,8 @@ all_front : (P : Event → Type 0) (a b : History) → AllByRecursion P (a ++ b)
 all_front P [] b all = (tt, all)
 all_front P (e ∷ a) b all = let rest = all_front P a b all.1 in ((all.0, rest.0), rest.1)
 
--- if the clauses that these fetches found follow, so does the clause of a hint that was found live
+-- if the clauses that these fetches found follow from the formula, so does the clause of the hint,
+-- which was found live
 live_sound : (ownership : Ownership) (f : Cnf) (c : StreamParams) (h : ℕ) (asked : History) (d : Clause)
     → FetchesHintAt ownership c h asked (events.live d)
     → AllByRecursion (FindsSound f) asked → IsClause f.vars d × Follows f d

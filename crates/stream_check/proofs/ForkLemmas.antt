@@ -38,8 +38,8 @@ never_fork_after (d ∷ a) g h never = never_fork_after a g h (never.1 refl)
 abbrev pub fetches : ℕ → ℕ → ℕ → Reply → History
 fetches s id k r = replicate k (fetch s id vacant) ++ fetch s id r ∷ []
 
--- fetches that never fork have the same number and the same last reply, if there were `done`
--- fetches before
+-- two lists of fetches that never fork are equally long and have the same last reply, if `done`
+-- fetches came before
 same_fetches : (s id most done k j : ℕ) (x y : Reply) (q r : History)
     → k + done ≤ most → j + done ≤ most → (x ≡ vacant → k + done ≡ most) → (y ≡ vacant → j + done ≡ most)
     → NeverFork (fetches s id k x ++ q) (fetches s id j y ++ r) → (k ≡ j) × (x ≡ y)
@@ -72,7 +72,7 @@ same_at ownerships.Foreign c h a b q r x y one two never =
     (one.3 ∙ ap (λ k. fetches c.stream h k x) same.0 ∙ ap (λ z. fetches c.stream h two.0 z) same.1 ∙ sym two.3, same.1)
 same_at ownerships.Outside c h a b q r x y one two never = (one.0 ∙ sym two.0, one.1 ∙ sym two.1)
 
--- the events of one hint are the same if they never fork
+-- two lists of events of one hint are the same if they never fork
 pub same_asked : (c : StreamParams) (h : ℕ) (a b q r : History) (x y : Reply) → FetchesHint c h a x → FetchesHint c h b y
     → NeverFork (a ++ q) (b ++ r)
     → (a ≡ b) × (x ≡ y)

@@ -109,7 +109,7 @@ none_after laws c lines rest end p back pre xs report (at_bad_text fault text no
 none_after laws c lines rest end p back pre xs report (at_end pending no_block says, no_memory) is =
     let e : p ∷ (pre ++ xs) ≡ [] = is ∙ no_block in absurd (cc)
 
--- a line that was good with the same block doesn't end the stream
+-- a line that is good with a block doesn't end the stream with the same block
 not_both : TextLaws → (c : StreamParams) (before all : List StreamLine) (rest : List ℕ) (end : StreamEnd) (p : History)
     (back pre xs : List History) (report : Report) (o : StreamLine) (more : List ℕ)
     → all ≡ before ++ [] → EndsWithout c all rest end back report → p ∷ (pre ++ xs) ≡ back → IsWithinLimits o → rest ≡ line_text o ++ more

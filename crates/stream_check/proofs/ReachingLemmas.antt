@@ -171,7 +171,8 @@ held_report c bytes blocks old ending before =
 abbrev with_deleted : Tally → ℕ → Tally
 with_deleted t deleted = record t { deleted = capped (t.deleted + deleted) }
 
--- the report made of what the checker holds, with more deleted identities, is that of the lines
+-- the report made of what the checker holds, with more deleted identities, is the report of the
+-- lines
 held_more : (c : StreamParams) (bytes : List ℕ) (blocks : List History) (old : GoingState) (deleted : ℕ) (ending : ℕ → Ending)
     → (before : ReachesGoing c bytes blocks old)
     → report_of_tally (with_deleted old.tally deleted) (ending old.line)
@@ -234,7 +235,7 @@ bad_line_taken c bytes piece blocks block old line ids later fault is_dropped be
           (inr (line, text.0, later, [], whole, deletes)) (ap (λ (r : Report). r.deleted) says) drops,
     )
 
--- the state after a deletion that ran out of memory, after these identities
+-- the state after a deletion that had deleted these identities when memory ran out
 pub memory_wanted : (c : StreamParams) (bytes piece : List ℕ) (blocks : List History) (block : History)
     (old : GoingState) (lead : ℕ) (ids earlier : List ℕ) (is_dropped : ℕ → Bool)
     → ReachesState c bytes blocks (Going old) → LineText (Deletion lead ids) (old.pending ++ piece)

@@ -23,7 +23,7 @@ use Rattle.stream_check.specs.lemmas.ReportLemmas.{split_first, joined-append}
 use Rattle.stream_check.proofs.ForkLemmas.{never_fork_turned, never_fork_alone, never_fork_after}
 use Rattle.stream_check.proofs.AgreeLemmas.{line_agrees}
 
--- what is known of the texts of lines
+-- what is known about the texts of lines
 pub record TextLaws : Type 0 where
   pub line : OneLine
   pub begins : NoTextBegins
@@ -67,7 +67,7 @@ goes_on read byte after more text (y ∷ x) whole e split =
     let head : byte ≡ y = cc in
     inr (x, subst (IsLine standard) (e ∙ ap (λ z. read ++ (z ∷ x)) (sym head) ∙ sym (append_assoc read (byte ∷ []) x)) whole)
 
--- what has a text fault contains no whole line
+-- bytes with a text fault contain no whole line
 pub faulty_has_no_line : TextLaws → (rest : List ℕ) (fault : LineFault) → HasTextFault rest fault → HasNoLine rest
 faulty_has_no_line laws rest fault text line more fits e =
     let refused = text.3 in
@@ -160,12 +160,12 @@ ends_not_good laws c lines rest more end back report line block r
     let agree = line_agrees c (context_of c lines) line events block [] r (Bad deleted fault) Good judged good here in
     let verdict = agree.verdict in cc
 
--- one line moves from the lines to those before them
+-- one line moves from the later lines to the earlier ones
 pub after_one : (before : List StreamLine) (line : StreamLine) (lines all : List StreamLine) → all ≡ before ++ (line ∷ lines)
     → all ≡ (before ++ line ∷ []) ++ lines
 after_one before line lines all e = e ∙ sym (append_assoc before (line ∷ []) lines)
 
--- the good lines, their blocks, what comes after, and the report are the same
+-- both judgements agree on the good lines, their blocks, what comes after, and the report
 streams_agree : TextLaws → (c : StreamParams) (end : StreamEnd) (before lines others all both : List StreamLine) (rest left : List ℕ)
     (front back fore aft : List History) (report other : Report)
     → all ≡ before ++ lines → both ≡ before ++ others

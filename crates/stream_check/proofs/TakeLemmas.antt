@@ -19,7 +19,7 @@ use Rattle.stream_check.specs.internal.Taking.{hold, DeletesMore, TakesBy, endin
 use Rattle.stream_check.specs.Laws.{GoodLineTaken}
 use Rattle.stream_check.proofs.ReachingLemmas.{pending_grows, bad_line_taken, bad_text_read, memory_wanted}
 
--- the report after a line that stopped the stream: what it deleted is already counted
+-- the report after a line that stopped the stream: what the line deleted is already counted
 report_is : (old new : StreamStateValue) (ids : List ℕ) (ending : ℕ → Ending) → DeletesMore old new ids
     → report_of_tally (record (tally_at old) { deleted = capped ((tally_at old).deleted + length ids) }) (ending old.line)
     ≡ report_of_tally (tally_at new) (ending new.line)

@@ -51,8 +51,8 @@ pub all_derived : (f : Cnf) (cs : List Clause) (d : Clause) → AllByRecursion (
 all_derived f [] d h k = (k, tt)
 all_derived f (c ∷ cs) d h k = (h.0, all_derived f cs d h.1 k)
 
--- The hints so far have these clauses, which follow, and are unit one after the other; and the
--- result of the remaining hints gives the result of all.
+-- The hints so far have these clauses, which follow from the formula, and are unit one after the
+-- other; and the result of the remaining hints gives the result of all.
 pub record HasLed (c : StreamParams) (is_dropped : ℕ → Bool) (f : Cnf) (n : List ℤ) (hints : List ℕ) (m : List ℤ) (left : List ℕ)
     (es : History) : Type 0 where
   pub clauses : List Clause

@@ -16,10 +16,10 @@ use Rattle.stream_check.specs.StreamContext.{StreamContext}
 use Rattle.stream_check.specs.Verdicts.{LineVerdict, Good, Bad, Violates}
 use Rattle.stream_check.specs.Lookup.{AreFound, LooksUp}
 
--- An addition is valid: its identity is the stream's own, and above the last one that was added, or
--- the formula's last one if none was; its literals are over the variables; its clause has no more
--- literals than there is room for, and isn't a tautology; and the clauses that its hints name
--- derive this clause by propagation.
+-- An addition is valid: its identity is the stream's own, and above the last identity that was
+-- added, or above the formula's last one if there was no addition; its literals are over the
+-- variables; its clause has no more literals than there is room for, and isn't a tautology; and the
+-- clauses that its hints name derive this clause by propagation.
 pub record IsValidAddition (layout : LayoutValue) (stream last free : ℕ)
     (Names : List ℕ → List Clause → Type 0) (id : ℕ) (lits : List ℤ)
     (hints : List ℕ) : Type 0 where

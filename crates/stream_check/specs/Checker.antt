@@ -61,7 +61,7 @@ AreBlocksOf statuses.Line blocks = length blocks ≡ 1
 AreBlocksOf statuses.More blocks = blocks ≡ []
 AreBlocksOf statuses.Over blocks = length blocks ≤ 1
 
--- The text that finished the checker: a whole line, or a text that begins no line and ends with the
+-- The text that finished the checker: a whole line, or a text with which no line begins, up to the
 -- byte that decided this.
 abbrev pub StopsAt : Ending → List ℕ → Type 0
 StopsAt ending text =

@@ -28,8 +28,8 @@ DropsThen is_dropped earlier id history verdict Next =
     × Fails (length earlier) (faults.NotLive id) history verdict)
     ⊎ (((is_dropped id || is_among earlier id) ≡ false) × Next history)
 
--- deleting retires one of the stream's own identities in the map, and only drops one of the formula
--- or of another stream; deleting a number that isn't an identity is a fault
+-- one of the stream's own identities is retired in the map; an identity of the formula or of
+-- another stream is only dropped; deleting a number that isn't an identity is a fault
 abbrev pub DeletesAt : Ownership → StreamParams → (ℕ → Bool) → List ℕ → ℕ → History → LineVerdict
     → (History → Type 0) → Type 0
 DeletesAt ownerships.Formula params is_dropped earlier id history verdict Next =

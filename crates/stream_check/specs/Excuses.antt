@@ -14,8 +14,8 @@ pub data Excuse : Type 0 where
   ReadFailed : Excuse
   -- memory ran out, or a read failed
   CutOff : Excuse
-  -- memory ran out, or a read failed, or the line cites or imports another stream's clause (by
-  -- these parameters), and the clause wasn't there yet or was no longer there
+  -- memory ran out, or a read failed, or the line cites or imports another stream's clause
+  -- (according to these parameters), and the clause wasn't there yet or was no longer there
   Lacking : (params : StreamParams) → Excuse
 
 -- the report says that this happened in the line with this number

@@ -64,8 +64,8 @@ ending_at stream_ends.Ended (byte ∷ bytes) number = endings.Bad number (faults
 ending_at stream_ends.Failed rest number = endings.ReadFailed number
 
 -- After the good lines one of four things ends the stream. If the report has a line number, it is
--- that of the next line. If the rest begins with a deletion, good or bad, memory may run out in
--- that deletion.
+-- the number of the next line. If the rest begins with a deletion, good or bad, memory may run out
+-- in that deletion.
 pub data EndsAfter (params : StreamParams) (lines : List StreamLine) (rest : List ℕ)
     (end : StreamEnd)
     (blocks : List History) (report : Report) : Type 0 where
@@ -78,7 +78,7 @@ pub data EndsAfter (params : StreamParams) (lines : List StreamLine) (rest : Lis
       (says : report
       ≡ report_of params lines deleted (endings.Bad (capped (length lines + 1)) fault))
       → EndsAfter params lines rest end blocks report
-  -- a text that no line begins with, with anything after it
+  -- a text with which no line begins, and anything after it
   at_bad_text :
       (fault : LineFault) (text : HasTextFault rest fault) (no_block : blocks ≡ [])
       (says : report

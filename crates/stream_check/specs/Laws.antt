@@ -33,7 +33,7 @@ use Rattle.stream_check.specs.Checker.{IsNew, IsReadyAt}
 
 -- What a checker holds, step by step
 
--- no bytes and no blocks lead to a fresh state
+-- a fresh state is reached before any bytes and blocks
 abbrev pub FreshLeft : Type 0
 FreshLeft = (c : StreamParams) (now : GoingState) → IsFresh c now → ReachesState c [] [] (Going now)
 
@@ -45,7 +45,7 @@ GoodLineTaken = (c : StreamParams) (bytes piece : List ℕ) (blocks : List Histo
     → JudgesLine c old.context line block Good → TakesLine c old line new
     → ReachesState c (bytes ++ piece) (blocks ++ block ∷ []) (Going new)
 
--- at the end of the stream, or if a read fails, the report made of the checker's counts is right
+-- at the end of the stream, or if a read fails, the report made from the checker's counts is right
 abbrev pub EndJudged : Type 0
 EndJudged = (c : StreamParams) (bytes : List ℕ) (blocks : List History) (old : GoingState)
     (end : StreamEnd)
@@ -88,8 +88,8 @@ ReadyNew = (f : Cnf) (layout : LayoutValue) (cube : CubeValue) (stream tries : �
     → ((id : ℕ) → Owns layout stream id → p.own id ≡ opening f id)
     → IsReadyAt v p
 
--- a checker that can be fed with its stream's view of the one-thread map still can after the calls
--- of another stream
+-- if a checker can be fed with its stream's view of the one-thread map, another stream's calls
+-- don't change that
 abbrev pub ReadyBeside : Type 0
 ReadyBeside = (v : CheckerValue) (old new : Plain) (t : ℕ) (es : History)
     → IsReadyAt v (plain_caller_view old v.params.stream) → PlainMoves old new t es
@@ -152,7 +152,7 @@ AloneDecides = (f : Cnf) (p : LayoutValue) (c : StreamParams) (bytes : List ℕ)
 
 -- Good additions
 
--- the clause of a good addition follows from the formula if the clauses found do
+-- the clause of a good addition follows from the formula if the clauses that its events find do
 abbrev pub GoodFollows : Type 0
 GoodFollows =
     (f : Cnf) (c : StreamParams) (st : StreamContext) (id : ℕ) (lits : List ℤ) (hints : List ℕ)
@@ -193,8 +193,8 @@ FetchesOnly p (events.fetch s id r) = IsTrue (p id)
 FetchesOnly p (events.publish s id c r) = Unit {0}
 FetchesOnly p (events.retire s id r) = Unit {0}
 
--- a stream fetches only identities that its lines cite: if all that they cite pass a test, so do
--- all that the stream fetches
+-- a stream fetches only identities that its lines cite: if all identities that the lines cite pass
+-- a test, so do all that the stream fetches
 abbrev pub CitedFetched : Type 0
 CitedFetched = (c : StreamParams) (bytes : List ℕ) (end : StreamEnd) (blocks : List History)
     (report : Report) (all : List StreamLine) (rest : List ℕ) (p : ℕ → Bool)
@@ -211,7 +211,7 @@ WithinReported = (c : StreamParams) (bytes : List ℕ) (end : StreamEnd) (blocks
     → (j : JudgesBlocks c bytes end blocks report) → IsTrue report.within
     ↔ Any (λ addition. Within addition.1 c.cube) (additions_of j.lines)
 
--- with the empty cube the report says 'within' exactly if it says 'empty'
+-- with the empty cube, the report says 'within' exactly if it says 'empty'
 abbrev pub EmptyCubeReported : Type 0
 EmptyCubeReported = (c : StreamParams) (bytes : List ℕ) (end : StreamEnd) (blocks : List History)
     (report : Report)

@@ -15,7 +15,7 @@ abbrev pub FetchesUpTo : ℕ → ℕ → ℕ → History → Reply → Type 0
 FetchesUpTo most s id history reply = (k : ℕ) × (k ≤ most) × (reply ≡ vacant → k ≡ most)
     × (history ≡ replicate k (fetch s id vacant) ++ fetch s id reply ∷ [])
 
--- An identity of the stream or of the formula is fetched once. One of another stream is fetched
+-- An identity of the stream or of the formula is fetched once. Another stream's identity is fetched
 -- until it isn't vacant or the tries are used up. A number that isn't an identity is never fetched.
 abbrev pub FetchesHintAt : Ownership → StreamParams → ℕ → History → Reply → Type 0
 FetchesHintAt ownerships.Formula params id history reply = history ≡ fetch params.stream id reply ∷

@@ -24,11 +24,12 @@ IsFullAtMemory ending dropped = (line : ℕ) → ending ≡ endings.Memory line 
 
 -- What a stream dropped if its report says that a line is bad, or that memory ran out in it: the
 -- identities of the formula and of other streams among those that the lines before it delete, and
--- among the first ones that the line itself deletes. The report determines how many lines and
+-- among the first identities that the line itself deletes. The report determines how many lines and
 -- identities these are, up to 2^64 - 1: its line number says how many lines come before, and its
 -- count says how many of the line's identities come before the one at which the line stopped. If
--- the rest begins with no line, or with a line that deletes nothing, that line adds no identities.
--- The lines before are good with the first of these blocks of events.
+-- the rest begins with no line, or with a line that deletes nothing, the dropped identities are
+-- only those of the lines before. The lines before are good with the first of these blocks of
+-- events.
 pub record DropsUntilStop (params : StreamParams) (bytes : List ℕ) (blocks : List History)
     (report : Report) (is_dropped : ℕ → Bool) : Type 0 where
   pub lines : List StreamLine

@@ -111,8 +111,8 @@ AreJudged run_params set AreOwn s streams reports =
     × JudgesStream (stream_params run_params t) stream blocks report) s streams reports
 
 -- There is an order of lines for the reports of a set of streams: a legal history of whole lines of
--- these streams, with each stream's lines in order, by which each stream is judged as its report
--- says. There are as many streams as in the layout.
+-- these streams, with each stream's lines in order. Each stream is judged by its blocks in this
+-- history, as its report says. There are as many streams as in the layout.
 pub record IsOrdered (formula : Cnf) (run_params : RunParamsValue) (set : ℕ → Bool)
     (streams : List Stream)
     (reports : List Report) : Type 0 where

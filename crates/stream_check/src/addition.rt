@@ -46,7 +46,7 @@ impl LineScratch {
         })
     }
 
-    /// Runs the tests of an addition that fetch no clause, in the order of their faults. If the
+    /// Runs those tests of an addition that fetch no clause, in the order of their faults. If the
     /// addition passes all, `marks` has its clause.
     fn admit<M: ClauseMap>(
         &mut self,

@@ -85,7 +85,7 @@ impl Checker {
     /// the text can't become a line; otherwise takes all of them. A line that ends is checked: for
     /// an addition, the hints are fetched and the clause is published; for a deletion, the
     /// identities are retired or dropped; for an import, the identity is fetched and the literals
-    /// are compared. After a good line the caller feeds the rest of the piece. After a bad one, or
+    /// are compared. After a good line the caller feeds the rest of the piece. After a bad line, or
     /// if memory ran out, the checker is finished, and the gate gets the report. Later calls use no
     /// bytes.
     pub fn feed<M: ClauseMap, G: Gate>(
@@ -95,8 +95,8 @@ impl Checker {
         piece: &[u8],
     ) -> Progress
         requires { IsReadyAt self.old (M.caller_view map.old) }
-        // If some bytes and blocks led to the old checker, then followed by the bytes used and the
-        // blocks of this call's events they lead to the new one.
+        // If some bytes and blocks led to the old checker, then they lead to the new one once the
+        // bytes used and the blocks of this call's events are appended.
         ensures left { let old = checker_state self.old (M.caller_view map.old).room in
             let new = checker_state self.new (M.caller_view map.new).room in
             (blocks : List History) × M.moves map.old map.new (joined blocks)

@@ -3,7 +3,8 @@ use crate::report::Report;
 use lrup_model::Id;
 
 /// A hook of a run between the steps of a checker. It may wait, count, or let another thread go
-/// first, and has no influence on what the checker does. Each call gets the checker's stream.
+/// first, and has no influence on what the checker does. Each call gets the number of the checker's
+/// stream.
 pub trait Gate {
     /// Called before each fetch. `attempt` counts the fetches of one hint from 1; if it is above 1,
     /// the hint was vacant before.

@@ -29,7 +29,8 @@ pub fn end_judged()
     ensures { EndJudged }
 {}
 
-/// A report that is right for both ends stays right for any further bytes.
+/// A report that is right whether the stream ended or a read failed stays right for any further
+/// bytes.
 pub fn finished_stays()
     ensures { FinishedStays }
 {}
@@ -48,7 +49,7 @@ pub fn dropped_once()
     bytes_begin_with_one_line();
 }
 
-/// A new checker can be fed at the opening of a run.
+/// A new checker can be fed at the start of a run.
 pub fn ready_new()
     ensures { ReadyNew }
 {}

@@ -15,7 +15,7 @@ use crate::stream_state::StreamState;
 use lrup_model::{ClauseMap, Clip, Fetched, Id};
 
 /// Fetches a vacant identity again, until it isn't vacant, and at most `most` times. Nobody wakes a
-/// stream that waits for a clause of another one: it polls, and the gate may sleep before each
+/// stream that waits for another stream's clause: it polls, and the gate may sleep before each
 /// fetch.
 #[inline(always)]
 fn fetch_again<M: ClauseMap, G: Gate>(most: u64, map: &mut M, gate: &mut G, id: Id) -> Fetched
@@ -39,9 +39,9 @@ fn fetch_again<M: ClauseMap, G: Gate>(most: u64, map: &mut M, gate: &mut G, id: 
     Fetched::Vacant
 }
 
-/// Fetches a hint once, and up to `tries` times more while the hint is vacant and another stream's.
-/// Its owner is looked up only after a vacant reply, so a hint that is found at once costs one
-/// fetch and no division.
+/// Fetches a hint once, and up to `tries` times more while the hint is vacant and belongs to
+/// another stream. Its owner is looked up only after a vacant reply, so a hint that is found at
+/// once costs one fetch and no division.
 #[inline(always)]
 fn fetch_hint<M: ClauseMap, G: Gate>(
     params: &StreamParams,

@@ -20,8 +20,8 @@ pub enum Ending {
 pub struct Report {
     /// How many additions were good.
     pub added: u64,
-    /// How many identities deletions retired or dropped, including those before a bad one in the
-    /// same line. The count stops at 2^64 - 1.
+    /// How many identities were retired or dropped by deletions, including those before a bad
+    /// identity in the same line. The count stops at 2^64 - 1.
     pub deleted: u64,
     /// Whether a good addition added the empty clause.
     pub empty: bool,

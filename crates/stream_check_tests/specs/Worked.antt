@@ -24,7 +24,7 @@ at_start = context_of first_stream []
 abbrev pub after_drop : StreamContext
 after_drop = context_of first_stream (Deletion 5 (1 ∷ []) ∷ [])
 
--- fetches that find the first two clauses of the formula, one that finds nothing at 6, and the
+-- fetches that find the first two clauses of the formula, one that finds nothing under 6, and the
 -- publish of the unit clause
 abbrev pub first_found : Event
 first_found = fetch 1 1 (live first)

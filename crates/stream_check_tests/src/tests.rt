@@ -19,7 +19,7 @@ mod late_map;
 mod memory;
 mod two_streams;
 
-/// Stops the test if two values differ. Since it is a function, the assertion is proved only once.
+/// Stops the test if two values differ. This is a function, so the assertion is proved only once.
 fn same<T: PartialEq + fmt::Debug + Drop>(rt: &impl Abort, value: T, wanted: T) {
     assert_eq!(rt; value, wanted);
 }
@@ -278,7 +278,8 @@ fn the_first_test_that_fails_decides(rt: HostRuntime) -> Result<(), Fail> {
     have_reports(&rt, rt.alloc(), ONE_STREAM, TWO_FAULTS)
 }
 
-/// Hints that aren't identities, hints of the formula, and the stream's own, vacant and live.
+/// Hints: numbers that aren't identities; an identity of the formula; the stream's own identities,
+/// vacant and live.
 static HINTS_FETCHED_ONCE: &[&str] = &[
     "5 2 0 9 0\n => 0 added, 0 deleted, bad line 1 (missing 9); fetches 0",
     "5 2 0 9999999 0\n => 0 added, 0 deleted, bad line 1 (missing 9999999); fetches 0",
@@ -337,8 +338,8 @@ fn a_hint_may_come_at_the_last_try(rt: HostRuntime) -> Result<(), Fail> {
     Ok(())
 }
 
-/// A deletion makes one retire for each of the stream's own identities that it reaches, and no call
-/// for other identities.
+/// A deletion calls `retire` once for each of the stream's own identities that it reaches, and
+/// makes no call for other identities.
 static DELETIONS: &[&str] = &[
     "5 d 0\n => 0 added, 0 deleted, ended; fetches 0",
     "5 d 1 6 0\n => 0 added, 2 deleted, ended; fetches 0",

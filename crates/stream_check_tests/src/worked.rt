@@ -42,7 +42,7 @@ fn tests_are_judged()
         [] (Bad 0 Fault.NoRoom) }
 {}
 
-/// Hints that aren't found: another stream's hint is fetched once more; a hint that isn't an
+/// Hints that aren't found: another stream's identity is fetched once more; a hint that isn't an
 /// identity, or was dropped, isn't fetched.
 fn missing_hints_are_judged()
     ensures foreign { JudgesLine first_stream at_start (Addition 5 (pos 2 ∷ []) (6 ∷ []))

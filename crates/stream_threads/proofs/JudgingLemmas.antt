@@ -26,7 +26,7 @@ reaches_append c one two three xs ys front back first second bytes before left =
     (subst (λ (bs : List History). ReachesState c ((bytes ++ xs) ++ ys) bs three) (append_assoc before front back)
     (second (bytes ++ xs) (before ++ front) (first bytes before left)))
 
--- the state of a finished checker stays right with the rest of the bytes
+-- the state of a finished checker is still right after the rest of the bytes
 finished_takes : FinishedStays
     → (c : StreamParams) (old : CheckerState) (used rest : List ℕ) (blocks : List History) (v : CheckerValue) (free : ℕ) (ending : Ending)
     → v.ending ≡ Some ending → Extends c old used blocks (checker_state v free)
@@ -60,7 +60,7 @@ pub no_line : (status : CheckStatus) → (status ≡ statuses.More) ⊎ (status 
 no_line status (inl more) line = cc
 no_line status (inr finished) line = cc
 
--- what was taken in two steps, with the same parameters, was taken in one
+-- what was taken in two steps, with the same parameters, was taken in one step
 pub reaches_more : (c d : StreamParams) (one two three : CheckerState) (xs ys all : List ℕ) (front back : List History) → d ≡ c
     → all ≡ xs ++ ys
     → Extends c one xs front two → Extends d two ys back three → Extends c one all (front ++ back) three

@@ -26,7 +26,7 @@ use Rattle.stream_threads.specs.declared.stream_jobs.ThreadFault.TheVariants.{Ri
 use Rattle.stream_check.specs.lemmas.EachLemmas.{zip_count}
 use Rattle.stream_check.specs.Streams.{RunParamsValue}
 
--- what was judged at a desk was judged with its pass
+-- what was judged at a desk was judged with the desk's pass
 pub judged_at : (v : CheckerValue) (old new : Desk) (from to : PassValue) (items : List ℕ) (dropped : DroppedIdsValue)
     (report : Option Report)
     → old.pass ≡ from → to ≡ new.pass
@@ -39,7 +39,8 @@ judged_at v old new from to items dropped (Some r) first last judged =
     (subst (λ (q : PassValue). JudgesAtPass v old.pass q items dropped r) (sym last)
     (record { store = judged.1.store; blocks = judged.0; moves = judged.1.moves; judged = judged.2 }))
 
--- if an element moves from the front of one list to the end of another, both together stay the same
+-- if an element moves from the front of one list to the end of another, the two lists together stay
+-- the same
 pub moved_more : {A : Type 0} (done before rest all new : List A) (x : A) → before ≡ x ∷ rest → new ≡ done ++ x ∷ [] → done ++ before ≡ all
     → new ++ rest ≡ all
 moved_more done before rest all new x taken pushed whole =
@@ -70,7 +71,7 @@ found_more {S} view jobs old job one all here = record {
         → parts ++ part one ∷ [] ≡ map part (all.found ++ one ∷ [])
     pushed {X} part are = ap (λ (xs : List X). xs ++ part one ∷ []) are ∙ sym (map-append part all.found (one ∷ []))
 
--- the results of no jobs are those of no streams
+-- if there are no jobs, the empty list of results is right
 pub none_found : {S : Type 0} (view : SourceView S) (jobs : List (StreamJobsValue S)) (room : ℕ) (found : StreamResultsValue S)
     → length jobs ≡ 0 → found ≡ no_results room → AreResults view jobs found
 none_found view [] room found none is =
@@ -167,7 +168,7 @@ pub started_count : {S : Type 0} (signal : ℕ) (jobs : List (StreamJobsValue S)
     → all ≡ map (started_with signal) jobs → length all ≡ length jobs
 started_count signal jobs all is = ap length is ∙ length-map jobs (started_with signal)
 
--- what a thread promises of its result holds if the thread has one
+-- a thread's promise about its result holds if the thread returned a result
 pub if_stayed : {A E : Type 0} (end : Result A E) (P : A → Type 0) (Q : E → Type 0) → MatchResult end P Q
     → (found : A) → end ≡ Ok found → P found
 if_stayed end P Q kept found is = subst (λ r. MatchResult r P Q) is kept

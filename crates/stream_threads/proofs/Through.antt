@@ -25,7 +25,7 @@ no_more x m (_ ∷ _) ys e = cc
 byte_stays : (x : ℕ) → x < 256 → byte_of x ≡ x
 byte_stays x h = omega (arith, h)
 
--- the first mark of a list is at only one index
+-- two ways to split a list at its first mark are the same
 pub same_mark : (taken bytes rest : List ℕ) (mark m : ℕ) → All (λ b. b < 256) bytes → 256 ≤ mark → 256 ≤ m
     → taken ++ mark ∷ rest ≡ bytes ++ m ∷ [] → (map byte_of taken ≡ bytes) × (mark ≡ m)
 same_mark [] [] rest mark m b p q e = (refl, (cons_parts mark m rest [] e).0)
@@ -53,7 +53,7 @@ front_and_last past items n some fits =
     ∙ take-suc items (n - 1) 0 below in
     ap (λ u. past ++ u) e ∙ sym (append_assoc past (take (n - 1) items) (get_or items (n - 1) 0 ∷ []))
 
--- a list has one last element
+-- a list has only one last element
 one_last : (xs ys : List ℕ) (x y : ℕ) → xs ++ x ∷ [] ≡ ys ++ y ∷ [] → x ≡ y
 one_last [] [] x y e = cc
 one_last [] (b ∷ ys) x y e = absurd (omega (arith, no_more y 0 ys [] (sym (cons_parts x b [] (ys ++ y ∷ []) e).1)))

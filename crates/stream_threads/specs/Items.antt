@@ -10,7 +10,7 @@ abbrev pub mark_of : StreamEnd → ℕ
 mark_of stream_ends.Ended = 256
 mark_of stream_ends.Failed = 257
 
--- the end of the stream that this mark stands for
+-- the stream's end that this mark stands for
 abbrev pub end_of_mark : ℕ → StreamEnd
 end_of_mark mark = if nat_eq mark 257 then stream_ends.Failed else stream_ends.Ended
 
@@ -24,8 +24,8 @@ pub record IsSentOf (bytes : List ℕ) (end : StreamEnd) (items : List ℕ) : Ty
   pub items_are : items ≡ bytes ++ mark_of end ∷ []
 
 -- What a reading thread sent: the bytes that its reader's reads gave, up to the last read, and then
--- the mark of the end at that read. If the bytes that the reader delivered are known, these are the
--- same bytes.
+-- the mark of the end at that read. If the bytes that the reader delivered are known, they are
+-- these bytes.
 pub record SendsAll (S : Type 0) (view : SourceView S) (first last : S)
     (items : List ℕ) : Type 0 where
   pub bytes : List ℕ

@@ -58,9 +58,9 @@ pub record CanBegin {S : Type 0} (store : StoreValue) (jobs : StreamJobsValue S)
   pub here : store_of jobs.pass ≡ store
   pub ready : IsReadyAt jobs.checker (pass_caller_view jobs.pass.view)
 
--- The result is right. If the checker had taken no bytes before, the stream that the reader
--- delivered and its reads gave is judged as the report says, by the calls that the pass made; and
--- the identities are those that the stream's lines dropped.
+-- The result is right. If the checker had taken no bytes before, the stream that the reader's reads
+-- gave is judged, by the calls that the pass made, as the report says; and the identities are those
+-- that the stream's lines dropped.
 pub record Finishes {S : Type 0} (view : SourceView S) (jobs : StreamJobsValue S)
     (found : StreamResultValue S) : Type 0 where
   pub store : store_of found.pass ≡ store_of jobs.pass

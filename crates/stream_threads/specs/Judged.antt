@@ -19,8 +19,8 @@ ending_with None end checker = ending_at end checker.pending checker.line
 ending_with (Some ending) end checker = ending
 
 -- A checker with this room takes the bytes, whose lines have these blocks of events, and then has
--- dropped these identities; the report is the one that the checker gives at some end of the stream.
--- If memory ran out, there is no room for another identity.
+-- dropped these identities; the report is the one that the checker gives for some end of the
+-- stream. If memory ran out, there is no room for another identity.
 pub record DropsBy (checker : CheckerValue) (room : ℕ) (bytes : List ℕ) (blocks : List History)
     (dropped : DroppedIdsValue) (report : Report) : Type 0 where
   pub last : CheckerValue

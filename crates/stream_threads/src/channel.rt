@@ -44,8 +44,9 @@ impl Drop for Waker {
     }
 }
 
-/// The reading thread's half of the ring. If it is dropped whole, its fields are dropped in order:
-/// the receiver, which the drop of the waker wakes, then finds the producer gone.
+/// The reading thread's half of the ring. If it is dropped as a whole, the producer is dropped
+/// before the waker: so when the drop of the waker wakes the receiver, the receiver finds the
+/// producer gone.
 #[derive(Drop)]
 pub struct Sender {
     pub producer: Producer<u16>,
@@ -74,7 +75,7 @@ pub enum Received {
     /// This many bytes, and then the mark that says how the stream ended: nothing more comes.
     Mark(usize, StreamEnd),
     /// The reading thread dropped its half. All items that it pushed were received before this, and
-    /// had no mark.
+    /// none of them was a mark.
     Abandoned,
 }
 
@@ -286,8 +287,8 @@ fn end_of(mark: u16) -> StreamEnd
 }
 
 /// Compares the two halves, once both threads have returned them. It is for the proof only, and
-/// changes nothing: by its contract, what was received is a prefix of what was sent, and the whole
-/// if the prefix ends with a mark.
+/// changes nothing: by its contract, what was received is a prefix of what was sent; if it ends
+/// with a mark, it is all that was sent.
 pub fn halves_agree(producer: &mut Producer<u16>, consumer: &mut Consumer<u16>)
     requires { IsPair producer.old consumer.old }
     ensures beginning { (left : List ℕ)

@@ -40,8 +40,8 @@ pub struct CheckingJob<G: Gate + Drop> {
     ghost nothing: { received receiver.consumer ≡ [] },
 }
 
-/// What a checking thread returns: the stream's report, or none if no mark came; what the stream
-/// dropped; and its half of the ring.
+/// What a checking thread returns: the stream's report, if a mark came; what the stream dropped;
+/// and the thread's half of the ring.
 #[derive(Drop)]
 pub struct Checked {
     /// The stream's report. There is none if the ring turned out to be abandoned before a mark

@@ -12,7 +12,7 @@ use std::alloc::{AllocError, Global};
 use std::sync::{OnceLock, OnceToken, Wait};
 
 /// The maximum number of bytes that are converted to items before a push, so that the checking
-/// thread starts before a whole piece is pushed.
+/// thread can start before a whole piece is pushed.
 const PUSH_BATCH: usize = 4_096;
 
 /// What a reading thread starts with: a reader that hasn't failed, and the sending half of the
@@ -30,7 +30,7 @@ pub struct ReadingJob<R: Source + Drop> {
     ghost nothing: { sent sender.producer ≡ [] },
 }
 
-/// What a reading thread returns: the reader, and its half of the ring.
+/// What a reading thread returns: the reader, and the thread's half of the ring.
 #[derive(Drop)]
 pub struct Sent<R: Source + Drop> {
     /// The reader, at its end or after a read that failed.

@@ -8,7 +8,7 @@ use std::time::{Clock, Duration};
 mod jobs;
 mod ring;
 
-/// Stops the test if two values differ. Since it is a function, the assertion is proved only once.
+/// Stops the test if two values differ. This is a function, so the assertion is proved only once.
 fn same<T: PartialEq + fmt::Debug + Drop>(rt: &impl Abort, value: T, wanted: T) {
     assert_eq!(rt; value, wanted);
 }

@@ -1,4 +1,4 @@
--- The blocks of a run on one thread: those of one more turn, and the rounds.
+-- The blocks of a run on one thread: the blocks of one more turn, and rounds.
 use Rattle.std.proofs.Common.{◌≡◌, ◌≢◌, IsSome, ℕ, zero, suc, ◌+◌, ◌-◌, ◌<◌, ◌≤◌, true, false, List, [], ◌∷◌, ◌++◌, length, set, slice_get}
 use Rattle.std.proofs.Common.{Option, Some, None, refl, sym, ap, subst, ◌∙◌, inl, inr, arith, append-nil, eqb, eq-eqb, ne_eqb}
 use Rattle.std.specs.List.{AllByRecursion}
@@ -84,7 +84,7 @@ just_one : (ending : Option Ending) (bs : List History) → ending ≡ None → 
 just_one None bs going are = are
 just_one (Some ending) bs going are = cc
 
--- if a turn appends at most one block of stream s, the stream has as many more lines
+-- if a turn appends at most one block of stream s, the stream has that many more lines
 own_lines : (s : ℕ) (blocks : List Block) (bs : List History) → length bs ≤ 1
     → line_count s (streams_of (blocks ++ tagged s bs)) ≡ line_count s (streams_of blocks) + length bs
 unfolding tagged
@@ -127,7 +127,7 @@ module _ {S : Type 0} where
   at_other (w ∷ ws) (suc i) zero v other = refl
   at_other (w ∷ ws) (suc i) (suc k) v other = at_other ws i k v (λ is. other (ap suc is))
 
-  -- the worker at index i is that of stream i + 1
+  -- the worker at index i is the worker of stream i + 1
   stream_at : (ws : List (WorkerValue S)) (i : ℕ) (w : WorkerValue S) → slice_get ws i ≡ Some w → IsOfStream ws (i + 1) w
   stream_at ws i w at = let place : i ≡ i + 1 - 1 = omega arith in (omega arith, subst (λ k. slice_get ws k ≡ Some w) place at)
 

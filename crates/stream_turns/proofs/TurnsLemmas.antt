@@ -54,7 +54,7 @@ spent-others s t (e ∷ es) calls other =
     ap (λ (h : History). sum_by (λ p. length p.1) (published h)) (cond-false (eqb (stream_of e) t) (e ∷ own es t) (own es t) not_mine)
     ∙ spent-others s t es calls.1 other
 
--- nothing is taken from the room of a number that isn't a stream's
+-- a number that isn't a stream's uses no room
 spent-outside : (p : LayoutValue) (t : ℕ) (blocks : List Block) → AllByRecursion (IsBlockWithin p (λ s. true)) blocks → ¬ IsStream p t
     → spent t (events_in blocks) ≡ 0
 spent-outside p t [] within outside = refl
@@ -245,7 +245,8 @@ module _ {S : Type 0} (view : SourceView S) where
       → IsInSerialRun view j b vs
   running_on i j a b us vs running on = (running.0, running.1, running.2, on running.0 running.1 running.2 running.3)
 
-  -- if neither this stream nor one before it had a turn, all of them are finished and unchanged
+  -- if neither this stream nor any stream before it had a turn, all of them are finished and
+  -- unchanged
   pub finished_more : (i : ℕ) (going turned : Bool) (first old new : List (WorkerValue S)) → (going || turned) ≡ false
       → (going ≡ false → (old ≡ first) × ((k : ℕ) → k < i → IsFinishedAt old k)) → (turned ≡ false → IsFinishedAt old i × (new ≡ old))
       → (new ≡ first) × ((k : ℕ) → k < i + 1 → IsFinishedAt new k)
@@ -345,7 +346,7 @@ module _ {S : Type 0} (view : SourceView S) where
 
   -- ---- when all streams are finished
 
-  -- a finished worker has a stream that its report judges
+  -- a finished worker's report is a judgement of its stream
   known_finished : (o : Option Ending) (ending : Ending) (first : S) (w : WorkerValue S) (free : ℕ) (blocks : List History)
       → o ≡ Some ending
       → WorkerInvariantBy view o first w free blocks

@@ -37,7 +37,7 @@ none_of (Some ending) none = absurd (none refl)
 pub not_finished : (finished : Bool) (ending : Option Ending) → (IsTrue finished ↔ IsSome ending) → finished ≡ false → ending ≡ None
 not_finished finished ending is going = none_of ending (λ some. let yes : finished ≡ true = is.1 some in cc)
 
--- ---- a judgement for both ends is one for each
+-- ---- a judgement for both ends is a judgement for each
 
 pub either_end : (c : StreamParams) (bytes : List ℕ) (blocks : List History) (report : Report) (end : StreamEnd)
     → JudgesBlocks c bytes stream_ends.Ended blocks report → JudgesBlocks c bytes stream_ends.Failed blocks report
@@ -160,7 +160,7 @@ module _ {S : Type 0} (view : SourceView S) where
     stopped_drops ending v.params bytes blocks v.tally v.dropped reaches.1 full,
   )
 
-  -- what the checker took of the bytes that were read is a step
+  -- feeding the checker with bytes that were read is a step
   pub worker_fed : (reader : S) (unread front rest : List ℕ) (v u : CheckerValue) (room after : ℕ) (blocks : List History)
       → view.has_failed reader ≡ false → unread ≡ front ++ rest → v.ending ≡ None → u.params ≡ v.params
       → Extends v.params (checker_state v room) front blocks (checker_state u after)
@@ -181,7 +181,7 @@ module _ {S : Type 0} (view : SourceView S) where
 
 -- ---- the buffer
 
--- the checker took the first of the bytes between two indices
+-- the bytes between two indices are the first ones, which the checker took, and the rest
 pub unread_split : (xs now : List ℕ) (start end used : ℕ) → now ≡ xs → used ≤ length (take (end - start) (drop start now))
     → take (end - start) (drop start xs)
     ≡ take used (take (end - start) (drop start now)) ++ take (end - (start + used)) (drop (start + used) xs)

@@ -1,4 +1,4 @@
-//! A reader and a writer that take few bytes per call, and fail at one call.
+//! A reader and a writer that handle few bytes per call, and fail at one call.
 ghost use Rattle.std.specs.Prelude.{◌≡◌, [], Some, false};
 ghost use Rattle.lrup_text.specs.Reads.{GivesLeft};
 
@@ -21,7 +21,8 @@ pub struct Pieces<'a> {
 }
 
 impl<'a> Pieces<'a> {
-    /// Reads deliver at most `most` bytes. Read number `fails_at` fails; if that is 0, none does.
+    /// Reads deliver at most `most` bytes. Read number `fails_at` fails; if `fails_at` is 0, no
+    /// read fails.
     pub fn new(text: &'a str, most: usize, fails_at: usize) -> Pieces<'a>
         ensures left { result.left.now ≡ text.now }
         ensures most { result.most ≡ most }
@@ -81,7 +82,8 @@ pub struct Paper {
 }
 
 impl Paper {
-    /// Writes take at most `most` bytes. Write number `fails_at` fails; if that is 0, none does.
+    /// Writes take at most `most` bytes. Write number `fails_at` fails; if `fails_at` is 0, no
+    /// write fails.
     pub fn new(alloc: Global, most: usize, fails_at: usize) -> Paper
         ensures bytes { result.bytes.items ≡ [] }
         ensures most { result.most ≡ most }

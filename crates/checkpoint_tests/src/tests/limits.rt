@@ -32,7 +32,7 @@ fn save_copies<M: ClauseMap>(
     Ok(save_clips(alloc, desk, &copies, layout.vars(), false, paper).map(|_| ()))
 }
 
-/// Saves these copies through the desk of stream 1.
+/// Does what `save_copies` does, through the desk of stream 1.
 fn save_copies_at_first(
     alloc: Global,
     map: &mut PlainMap,
@@ -65,8 +65,8 @@ fn save_one_clause(
     Ok((saved, paper.writes, paper.bytes.len()))
 }
 
-/// With the maximum number of clauses `save_clips` gets to the first write, which fails here; with
-/// one clause more it doesn't get that far.
+/// With the maximum number of clauses, `save_clips` gets to the first write, which fails here; with
+/// one clause more, it doesn't get that far.
 #[test]
 fn clauses_have_a_limit(rt: HostRuntime) -> Result<(), Fail> {
     let most = Formula::MAX_CLAUSES as usize;

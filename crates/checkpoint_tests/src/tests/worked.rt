@@ -1,5 +1,5 @@
 //! What `save` writes for the worked formula after stream 1 has published a clause, and perhaps
-//! retired it, also if not all clauses are wanted.
+//! retired it, whether all clauses are wanted or only some.
 ghost use Rattle.std.specs.Prelude.{◌≡◌, ◌||◌, false, nat_lt, IfOk};
 ghost use Rattle.lrup_model.specs.Layout.{Fits, IsStream};
 ghost use Rattle.lrup_model.specs.Plain.{formula_of};
@@ -15,7 +15,7 @@ use std::process::Abort;
 use std::test::Fail;
 use test_support::{Paper, four_clauses, lit};
 
-/// Wants what either of two streams wants, each of which has dropped a range.
+/// Wants what at least one of two streams wants; each stream has dropped a range.
 #[derive(Clone, Copy)]
 struct Either(Except, Except);
 
@@ -37,7 +37,7 @@ struct Case {
     wanted: Either,
 }
 
-/// Publishes `2` under an identity of the caller's own, and may retire it.
+/// Publishes `2` under an identity of the caller's own, and may retire the clause.
 fn act<M: ClauseMap>(desk: &mut M, case: &Case)
     requires { (M.caller_view desk.old).caller.formula ≡ four }
     ensures { (M.caller_view desk.new).caller ≡ (M.caller_view desk.old).caller }
@@ -53,8 +53,8 @@ fn act<M: ClauseMap>(desk: &mut M, case: &Case)
     }
 }
 
-/// Lets stream 1 act, saves the live and wanted clauses, and returns their formula if the run
-/// continues.
+/// Lets stream 1 act, saves the live and wanted clauses, and, if the run continues, returns the
+/// formula of these clauses.
 fn save_after(
     alloc: Global,
     map: &mut PlainMap,
@@ -149,7 +149,7 @@ static ROWS: [Row; 12] = [
     (Some(5), false, Except(1, 1), ALL, WITH_5),
     (Some(5), false, Except(1, 1), Except(1, 1), WITHOUT_1),
     (Some(6), false, Except(2, 3), Except(2, 3), WITH_1_4_6),
-    // Each has also dropped clauses that the other keeps.
+    // Each stream has also dropped clauses that the other keeps.
     (Some(6), false, Except(1, 3), Except(2, 6), WITH_1_4_6),
     (Some(5), false, Except(5, 6), Except(5, 6), FOUR),
     (
@@ -159,7 +159,7 @@ static ROWS: [Row; 12] = [
         Except(1, 4),
         "p cnf 2 1\nc id 6\n2 0\n",
     ),
-    // Both have also dropped a clause that was retired.
+    // Both streams have also dropped a clause that was retired.
     (Some(6), true, Except(3, 6), Except(4, 6), UP_TO_3),
     (Some(6), false, Except(1, 6), Except(1, 6), "p cnf 2 0\n"),
 ];
@@ -173,9 +173,9 @@ fn case_of(row: &Row) -> Case {
     }
 }
 
-/// Saves a row with writes of 7 bytes. Write number `fails_at` fails; if that is 0, none does. A
-/// run that continues gets the clauses that were written, in the same order, but not under the same
-/// identities.
+/// Saves a row with writes of 7 bytes. Write number `fails_at` fails; if `fails_at` is 0, no write
+/// fails. A run that continues gets the clauses that were written, in the same order, but not under
+/// the same identities.
 fn assert_saves(
     rt: &(impl Abort + AllocGlobal),
     row: &Row,

@@ -133,8 +133,8 @@ fn finds_all_retired(rt: &impl Abort, store: &Store, pass: &mut Pass)
     }
 }
 
-/// The clause of an identity at which the other threads hammer. Two clauses alternate; the literals
-/// take three words.
+/// The literals of the clause that the other threads hammer at. Two clauses alternate, by identity;
+/// each takes three words.
 fn six_literals(id: Id) -> [Lit; 6]
     ensures { IsPublishable raced result }
 {
@@ -157,7 +157,7 @@ fn publish_six(store: &Store, pass: &mut Pass, id: Id) -> Option<Published>
 }
 
 /// Fetches until the clause is live, and pauses now and then. Returns whether the clause is then
-/// whole; `None` if it never became live.
+/// whole; `None` if it never becomes live.
 fn hammers(store: &Store, pass: &mut Pass, id: Id) -> Option<bool>
     requires { store_of pass.old ≡ store.now }
     ensures { store_of pass.new ≡ store.now }
@@ -189,9 +189,9 @@ fn is_late(clock: &impl Clock, began: Option<Duration>) -> bool {
     }
 }
 
-/// Publishes the clause of each line once eight other threads hammer at it. When time is up, it
-/// announces, before it publishes the line's clause, that this line is the last one; so every
-/// thread that finds the clause also knows that.
+/// Publishes the clause of each line once eight other threads hammer at it. When time is up,
+/// announces that this line is the last one, and only then publishes the line's clause; so every
+/// thread that finds the clause also knows that the line is the last one.
 fn publish_hammered<R: Abort + Clock>(rt: &R, store: &Store, pass: &mut Pass, counters: &Counters)
     requires { IsPassAt raced store.now pass.old }
     ensures { store_of pass.new ≡ store.now }
@@ -311,9 +311,9 @@ fn a_retire_and_a_fetch_at_once(rt: HostRuntime) -> Result<(), Fail> {
 }
 
 /// Eight threads fetch as fast as they can while one publishes, for two to three seconds or until
-/// all is published. No gate can stop a thread between the stores of a clause's literals and the
-/// exchange that makes the clause live, hence the speed; each thread that finds a clause live reads
-/// all of it.
+/// all clauses are published. They have to be fast because no gate can stop a thread between the
+/// stores of a clause's literals and the exchange that makes the clause live. Each thread that
+/// finds a clause live reads all of it.
 #[test]
 fn eight_threads_hammer(rt: HostRuntime) -> Result<(), Fail> {
     let counters = Counters::new(HAMMERED);

@@ -131,8 +131,8 @@ fn open_large<R: Abort>(rt: &R, alloc: Global) -> Result<(), Fail> {
     Ok(())
 }
 
-/// Opens four stores like that of `open_large`, one after the other. `make sweep` gives this test
-/// memory for one and a half, so memory that isn't freed would be missing for the next store.
+/// Calls `open_large` four times, one after the other. `make sweep` gives this test memory for one
+/// and a half stores, so memory that isn't freed would be missing for the next store.
 #[test]
 fn a_large_store_is_given_back(rt: HostRuntime) -> Result<(), Fail> {
     for _ in 0..4 {

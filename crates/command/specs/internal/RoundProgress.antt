@@ -107,7 +107,7 @@ pub record FailsAfter (its : Effects) (given : CommandLine) (cube : CubeValue) (
   pub number : failed.round ≡ last.number + 1
   pub cause : IsNextCause last failed.fault after
 
--- The fault is one of round 1, after its streams were opened; or one of a later round.
+-- The fault is in round 1, after that round's streams were opened; or in a later round.
 abbrev pub FailsAt : (its : Effects) → CommandLine → CubeValue → Cnf → its.State
     → List its.Reader → its.State → RoundFault → its.State → Type 0
 FailsAt its given cube formula first readers opened failed after =

@@ -1,8 +1,9 @@
--- What `--watch` reports of a round that begins (this project's own).
+-- What `--watch` reports about a round that begins (this project's own).
 use Rattle.std.specs.Prelude.{◌++◌, ℕ, List, codes}
 use Rattle.std.specs.Fmt.{decimal}
 
--- the line for a round that begins, with its counts of clauses and literals, and the rest
+-- the line for a round that begins, with the round's counts of clauses and literals; it ends with
+-- `rest`
 abbrev pub begins_with : ℕ → ℕ → ℕ → List ℕ → List ℕ
 begins_with number clauses literals rest =
     codes "lrupd: round " ++ (decimal number ++ (codes ": " ++ (decimal clauses

@@ -97,7 +97,8 @@ module _ {its : Effects} {given : CommandLine} {cube : CubeValue} (round : Round
       leaves_kept its round.formula layout h dropped round.verdict round.opened round.after path round.next unrefuted
       (subst (Leaves (Some path)) saved (subst (λ (o : Option Text). Leaves o round.unsaved) at round.leaves))
 
-  -- a round after which the run continues saved its checkpoint, whose formula is the next round's
+  -- if the run continues after a round, that round saved its checkpoint, whose formula is the next
+  -- round's
   pub carried : (next : Cnf) (on : CarriesOn round next)
       → KeptAt its round.formula round.opened (formula_path on.folder (round.number + 1))
       (Some next) round.after

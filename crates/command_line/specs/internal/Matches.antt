@@ -32,7 +32,8 @@ abbrev pub IsNumber : Text → Type 0
 IsNumber text = IsNumeral 10 (without_leading_plus text)
     × (digits_value 10 (without_leading_plus text) < 2 ^ 64)
 
--- if the words have the option, its text is a number: one of 64 bits, or one from 0 to `most`
+-- if the words have the option, its text is a number of 64 bits or, in `HasUpTo`, a number from 0
+-- to `most`
 abbrev pub HasNumber : Text → List Row → Type 0
 HasNumber name rows = ForSome (one_of name rows) IsNumber
 

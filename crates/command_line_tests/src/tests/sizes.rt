@@ -30,7 +30,7 @@ fn three_numbers_are_sizes(rt: HostRuntime) -> Result<(), Fail> {
     Ok(())
 }
 
-/// Texts with a number out of its range. 18446744073709551617 is 1 in 64 bits.
+/// Texts with a number out of its range. Truncated to 64 bits, 18446744073709551617 would be 1.
 static OUT_OF_RANGE: [&str; 7] = [
     "0 0 0\n",
     "65 0 0\n",

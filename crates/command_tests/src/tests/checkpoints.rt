@@ -70,7 +70,7 @@ static GOING_ON: [Saved; 3] = [
     ("f 1 2", &[DROPS, DELETES], &[DROPPED, ONE_DELETED], 3, LESS),
 ];
 
-/// A verdict other than 'unknown', or a stream that didn't end.
+/// Runs without a next round: the verdict isn't 'unknown', or a stream didn't end.
 static LAST: [Saved; 5] = [
     ("f --assume=a 1", &[DROPS], &[DROPPED], 8, LESS),
     ("f 1", &[REFUTES], &[TWO_ADDED], 0, ""),
@@ -109,7 +109,7 @@ fn a_stream_whose_reading_fails_is_not_gone_on_with(rt: HostRuntime) -> Result<(
 }
 
 /// `assert_saves` for a stream that drops the first clause, with this thing at the new file's path,
-/// if these writes of standard output and standard error fail.
+/// if these writes to standard output and standard error fail.
 fn assert_dropping(
     rt: &impl Host,
     thing: Thing,
@@ -177,7 +177,7 @@ fn checkpoints_that_are_not_saved(rt: HostRuntime) -> Result<(), Fail> {
     )
 }
 
-/// Each write of the checkpoint fails in turn: what was written before is discarded.
+/// Each write of the checkpoint fails in turn; what was written before that write is discarded.
 #[test]
 fn checkpoints_that_break_at_a_write(rt: HostRuntime) -> Result<(), Fail> {
     for write in 1..=LESS.len().div_ceil(7) {

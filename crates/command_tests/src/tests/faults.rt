@@ -134,15 +134,15 @@ fn reports_that_are_not_written(rt: HostRuntime) -> Result<(), Fail> {
     assert_unwritten(&rt, "f 1", ONE_EMPTY, whole.as_str(), said)
 }
 
-/// The words, the write of standard output that fails, and the status.
+/// The words, which write to standard output fails, and the status.
 static UNSAID: [(&[&str], usize, u8); 3] = [
     (&["f"], 0, 2),
     (&["no", "1"], 0, 5),
     (&["f", "1"], 1, 7),
 ];
 
-/// A failing standard error doesn't change the status: each write before the failing one takes
-/// seven bytes.
+/// If a write to standard error fails, the status doesn't change. Each write before the failing one
+/// takes seven bytes.
 #[test]
 fn faults_that_are_not_said(rt: HostRuntime) {
     for &(words, out_fails_at, status) in &UNSAID {

@@ -31,9 +31,9 @@ static READS: [(usize, usize, u64); 6] = [
     (200_000, usize::MAX, 5),
 ];
 
-/// Reads the four clauses, with a comment that makes the file this long, at most `most` bytes a
-/// read. Returns how many reads asked for 65,536 bytes, and how many for another number. There is
-/// no stream.
+/// Runs without a stream over the four clauses, in a file that a comment makes this long; a read
+/// gives at most `most` bytes. Returns how many reads asked for 65,536 bytes, and how many for
+/// another number.
 fn reads_of(rt: &impl Host, bytes: usize, most: usize) -> Result<(u64, u64), Fail> {
     let mut formula = String::from_str(rt.alloc(), FOUR)?;
     formula.push('c')?;

@@ -1,4 +1,4 @@
-//! Runs that are refused memory or a thread close each file that they created.
+//! If a run is refused memory or a thread, it still closes each file that it created.
 use super::shelf::Thing::{self, Text};
 use super::*;
 
@@ -17,7 +17,7 @@ static ENDING: [(&str, &str, &[(&str, Thing)], u8); 4] = [
 ];
 
 /// Whether these are complete texts of formulas, one after the other. If a stream has no memory for
-/// what it drops, it stops, and the first clause stays.
+/// what it drops, it stops, and the first clause is saved, too.
 fn are_whole(kept: &str) -> bool {
     let rest = kept.strip_prefix(LESS).unwrap_or(kept);
     let rest = rest.strip_prefix(ALL).unwrap_or(rest);

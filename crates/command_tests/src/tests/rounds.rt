@@ -116,8 +116,8 @@ static ROWS: [Row; 6] = [
         done: &["f a 1 +d/round-2.cnf =d/round-2.cnf ", OPENED, KEPT],
         kept: &[FOUR, ALL],
     },
-    // The two streams, limited by the words, or by the sizes of the previous round, which came from
-    // a file.
+    // The two streams of `MANY` and `LONG`, limited by the words, or by the sizes of the previous
+    // round, which it read from a file.
     Row {
         words: "--lines=2 --room=3 f 1 2",
         streams: &[ADDS, ""],
@@ -173,7 +173,7 @@ fn rounds_that_follow_each_other(rt: HostRuntime) -> Result<(), Fail> {
     Ok(())
 }
 
-/// 66 bytes. At three bytes a read, 22 reads give the first 64, and no other read follows.
+/// 66 bytes. At three bytes a read, 22 reads give the first 64, and no further read follows.
 const TOO_LONG: &str =
     "1 8 8\n1 8 8\n1 8 8\n1 8 8\n1 8 8\n1 8 8\n1 8 8\n1 8 8\n1 8 8\n1 8 8\n1 8 8\n";
 

@@ -97,8 +97,8 @@ const MISSING: &str = "0 added, 0 deleted, bad line 1 (missing 6)";
 
 const TWO_IN_STREAM_2: &str = "6 -2 0 3 4 0\n8 2 0 1 2 0\n";
 
-/// Stream 1 cites clauses of stream 2. With two threads per stream it waits for them; on one thread
-/// its first line comes before them, no matter how often it looks.
+/// Stream 1 cites clauses of stream 2. With two threads per stream, it waits for them; on one
+/// thread, its first line is checked before they are published, no matter how often it looks.
 static CITED_EARLY: [(&str, &str, &[&str], &[&str], u8); 3] = [
     (
         "--tries=1000000",

@@ -19,7 +19,7 @@ pub(super) enum Thing<'a> {
     Failing(&'a str, usize),
     /// A file that can't be opened.
     Refused,
-    /// Opening or creating it runs out of memory.
+    /// A file; opening or creating it runs out of memory.
     Full,
     /// Nothing; a file that is created there fails at the write with this number (from 1).
     Breaking(usize),
@@ -72,8 +72,8 @@ impl<'a> Setup<'a> {
         Setup { things, ..self }
     }
 
-    /// Also lets the writes with these numbers to standard output and standard error fail. They are
-    /// counted from 1; with 0, no write fails.
+    /// Also lets one write to standard output and one to standard error fail: the writes with these
+    /// numbers, counted from 1. For 0, no write fails.
     pub(super) fn failing(self, out_fails_at: usize, err_fails_at: usize) -> Setup<'a> {
         Setup {
             out_fails_at,
@@ -109,8 +109,8 @@ pub(super) struct OpenFile<'a> {
 }
 
 impl<'a> OpenFile<'a> {
-    /// An open file of this text. Read number `fails_at`, counted from 1, fails; if that is 0, none
-    /// does.
+    /// An open file of this text. Read number `fails_at`, counted from 1, fails; if `fails_at` is
+    /// 0, no read fails.
     pub(super) fn new(setup: &Setup<'a>, text: &'a str, fails_at: usize) -> OpenFile<'a>
         ensures left { result.text.left.now ≡ text.now }
         ensures running { result.text.failed ≡ false }
@@ -170,8 +170,8 @@ fn note(done: &mut String, sign: &str, path: &str) -> Result<(), OpenFault> {
 }
 
 impl<'a> Shelf<'a> {
-    /// Reserves space, so that the effects of a few rounds are noted without allocating, unless the
-    /// allocation fails here.
+    /// Reserves space, unless that allocation fails, so that the effects of a few rounds are noted
+    /// without allocating.
     pub(super) fn new(alloc: Global, setup: Setup<'a>) -> Shelf<'a> {
         Shelf {
             alloc,

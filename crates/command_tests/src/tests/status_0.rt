@@ -1,5 +1,5 @@
-//! What status 0 means for files whose bytes contracts know, and for a file that changes after its
-//! first opening.
+//! What status 0 means for files whose bytes are known to contracts, and for a file that changes
+//! after its first opening.
 ghost use Rattle.std.specs.Prelude.{◌≡◌, [], ◌∷◌, IsTrue, None, codes};
 ghost use Rattle.run_files.specs.declared.files.OpenFault.TheVariants.{NotOpened};
 ghost use Rattle.command_line.specs.CommandLine.{IsCommandLineOf};
@@ -17,7 +17,7 @@ use command_line::laws::plain_words;
 use lrup_text::WriteFault;
 use outcome_laws::laws::status_0_has_a_command_line;
 
-/// Whether the program ends with status 0. If it does, the formula's text is that of a formula that
+/// Whether the program ends with status 0. If it does, the formula's text describes a formula that
 /// no assignment satisfies.
 fn refutes<T: Threads + Wait + Sync + Clock>(
     rt: &T,
@@ -47,8 +47,8 @@ fn a_formula_whose_bytes_are_known(rt: HostRuntime) {
     same(&rt, refutes(&rt, rt.alloc(), FOUR, ""), false);
 }
 
-/// Every path has a file: the first opening finds one text, each later opening another. Creating
-/// files fails.
+/// Every path has a file. The first opening finds one text, and each later opening finds another
+/// text. Creating files fails.
 #[derive(Drop)]
 struct Changing<'a> {
     text: &'a str,
@@ -111,7 +111,7 @@ impl<'a> Machine for Changing<'a> {
 }
 
 /// Whether the program ends with status 0 if one path names formula and stream. If it does, the
-/// text that the first opening found is that of a formula that no assignment satisfies.
+/// text that the first opening found describes a formula that no assignment satisfies.
 fn refutes_the_first<T: Threads + Wait + Sync + Clock>(
     rt: &T,
     alloc: Global,

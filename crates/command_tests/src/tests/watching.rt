@@ -9,7 +9,7 @@ use std::io;
 use std::sync::atomic::{AtomicU64, AtomicUsize, Ordering};
 use std::time::Duration;
 
-/// What watchers take, and a clock that moves only when a file is looked for.
+/// Counts of what watchers take, and a clock that moves only when a file is looked for.
 #[derive(Drop)]
 pub(super) struct WatchLog {
     watchers: AtomicU64,
@@ -129,7 +129,7 @@ const AT_ONCE: &[&str] = &[
     "lrupd: round 3: 4 clauses, 7 literals, paused for 0 ms\n",
 ];
 
-/// In each pause the clock moves twice: the sizes and stream 1 are looked for.
+/// In each pause, the clock moves twice, since the sizes and stream 1 are looked for.
 const LATE: &[&str] = &[
     "lrupd: round 2: 4 clauses, 8 literals, paused for 2012 ms\n",
     "lrupd: round 3: 4 clauses, 7 literals, paused for 2012 ms\n",
@@ -148,8 +148,8 @@ s UNKNOWN
 const IN_3: &str = "c round 3\nc stream 1: 0 added, 0 deleted, ended\ns UNKNOWN\n";
 
 /// The words, the clock's delay, the expected lines, and the number of lines and of watchers. There
-/// is a line for each stream, and one for each round after the first. Each line has a watcher, and
-/// so has each opening; in rounds, the openings include the sizes and a stream of round 4.
+/// is a line for each stream, and one for each round after the first. A watcher is made for each
+/// line and for each opening; in rounds, the sizes and a stream of round 4 are opened, too.
 static HEARD: [(&str, Option<u64>, &[&str], u64, u64); 6] = [
     ("f 1 2", Some(0), &[], 0, 0),
     ("--watch f 1 2", Some(0), &[], 2, 5),
@@ -159,7 +159,7 @@ static HEARD: [(&str, Option<u64>, &[&str], u64, u64); 6] = [
     ("--watch --rounds d f 1", None, TIMELESS, 5, 13),
 ];
 
-/// With the flag each line is one write; without it nothing is written.
+/// With the flag, each line is one write; without it, nothing is written.
 #[test]
 fn watchers_take_whole_lines(rt: HostRuntime) -> Result<(), Fail> {
     for way in &WAYS {

@@ -13,7 +13,7 @@ IsBitSet words place = bit_at (slice_index words (place / 64)) (place % 64) ≡ 
 abbrev pub MarksAre : List ℕ → List ℤ → Type 0
 MarksAre words clause = (l : ℤ) → IsBitSet words (code_of l) ↔ Has clause l
 
--- the number of words that have a bit for each literal
+-- the number of words in which each literal has a bit
 abbrev pub all_words : ℕ
 all_words = 524288
 

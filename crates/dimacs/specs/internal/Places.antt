@@ -39,8 +39,8 @@ unfoldable pub after_run : List ℕ → List ℕ
 after_run [] = []
 after_run (byte ∷ bytes) = if is_separator byte then byte ∷ bytes else after_run bytes
 
--- what a reader keeps of a number: the number itself or, if it is above every variable, any number
--- that is
+-- what a reader keeps of a number: the number itself; or, for a number above every variable, some
+-- number above every variable
 abbrev pub IsCapped : ℕ → ℕ → Type 0
 IsCapped kept number = (kept ≡ number) ⊎ ((max_variable < kept) × (max_variable < number))
 
@@ -57,7 +57,7 @@ abbrev pub with_run : List ℕ → List (List ℕ) → List (List ℕ)
 with_run [] later = []
 with_run (byte ∷ bytes) later = (byte ∷ bytes) ∷ later
 
--- the token spells a count, of which this is kept
+-- the token spells a count; `kept` is what a reader keeps of it
 pub record ReadsCount (text : List ℕ) (kept : ℕ) : Type 0 where
   pub count : is_count text ≡ true
   pub number : IsCapped kept (value text)

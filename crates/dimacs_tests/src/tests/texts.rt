@@ -8,7 +8,7 @@ use super::*;
 use dimacs::laws::one_formula;
 use lrup_model::Formula;
 
-/// A number may not have a leading zero, in a clause or in the header.
+/// A number in a clause or in the header may not have a leading zero.
 fn zeros_in_front_are_refused()
     ensures clause { (f : Cnf) → ¬ IsFormulaText (codes "p cnf 1 1\n01 0\n") f }
     ensures header { (f : Cnf) → ¬ IsFormulaText (codes "p cnf 01 0\n") f }

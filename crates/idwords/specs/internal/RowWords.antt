@@ -10,12 +10,12 @@ use Rattle.lrup_model.specs.Literal.{code_of}
 abbrev pub identity_word : ℕ → ℕ → ℕ → ℕ
 identity_word state len start = state + 4 * len + 4194304 * start
 
--- the word of an identity that is in this state, and for which `stored` is what is stored
+-- the word of an identity in this state, for which this clause, if any, is stored
 abbrev pub stored_word : ℕ → Option StoredClause → ℕ
 stored_word state None = 0
 stored_word state (Some stored) = identity_word state (length stored.literals) stored.start
 
--- the word of an identity that has this slot, and for which `kept` is what is stored
+-- the word of an identity with this slot, for which this clause, if any, is stored
 abbrev pub word_of : Slot → Option StoredClause → ℕ
 word_of states.absent kept = 0
 word_of (states.live clause) kept = stored_word 1 kept

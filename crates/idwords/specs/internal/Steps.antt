@@ -80,8 +80,8 @@ pub record SyncThreads (old old' new new' : ThreadState) : Type 0 where
   pub top' : new'.top ≡ old'.top
   pub draft' : new'.draft ≡ old'.draft
 
--- a token with one thread state still has one after the step, and R relates the old one to the new
--- one
+-- a token with one thread state still has one after the step, and R relates the old state to the
+-- new state
 module _ {S : Type 0} where
   abbrev pub Changes : (ℕ → ThreadState → ℕ → ThreadState → Type 0) → Step S
       → Me S (List ThreadState) → ℕ

@@ -77,7 +77,7 @@ entries_from from [] = []
 entries_from from (clause ∷ clauses) =
     entries.Live from (length clause) ∷ entries_from (from + length clause) clauses
 
--- the result of a fetch of the identity if this is what is stored under it
+-- the result of a fetch of an identity, given what is stored under it
 abbrev pub fetched_of : ℕ → PlainSlot → Fetched
 fetched_of id vacant = fetched.Vacant
 fetched_of id (live stored) =

@@ -98,7 +98,7 @@ distinct-push_other (y ∷ ls) x missing =
     let kept : without y (x ∷ []) ≡ x ∷ [] = without-other y x [] (λ e. missing (inl (sym e))) in
     ap (λ m. y ∷ m) (ap (without y) rest ∙ split ∙ ap (λ m. without y (distinct ls) ++ m) kept)
 
--- adding a literal that is there already changes nothing
+-- appending a literal that the list already has doesn't change the distinct literals
 pub distinct-push_same : (ls : List ℤ) (x : ℤ) → Has ls x → distinct (ls ++ x ∷ []) ≡ distinct ls
 distinct-push_same [] x h = absurd h
 distinct-push_same (y ∷ ls) x h =
@@ -163,7 +163,7 @@ pub IsTautology-next : (ls n : List ℤ) (k : ℕ) (x : ℤ) → IsTaken (take k
 IsTautology-next ls n k x t lt at h =
     (x, Has-at ls k x (slice_get_read ls (length ls) k x refl lt at), Has-take k ls (neg_ℤ x) (Has-from_taken (take k ls) n (neg_ℤ x) t h))
 
--- if n consists of the distinct literals, so do its first `count` elements, which are all
+-- if n, of length `count`, is the list of distinct literals, so are its first `count` elements
 pub all_taken : (ls n : List ℤ) (count : ℕ) → count ≡ length n → n ≡ distinct ls
     → take count n ≡ distinct ls
 all_taken ls n count len same = let le : length n ≤ count = omega arith in take_all count n le ∙ same

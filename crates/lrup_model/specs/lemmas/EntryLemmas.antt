@@ -46,7 +46,7 @@ Advances-retired absent = tt
 Advances-retired (live c) = refl
 Advances-retired (retired c) = refl
 
--- if the slot of one identity is replaced by one to which it advances, every slot advances
+-- if one identity's slot is replaced by a slot to which it advances, every slot advances
 put-advances : (m : State) (j : ℕ) (slot : Slot) (id : ℕ) → Advances (m j) slot
     → Advances (m id) (put m j slot id)
 put-advances m j slot id advances =

@@ -72,7 +72,7 @@ moves_are_step a b es moves = record {
 abbrev stored_from : ℕ → Clause → Option StoredClause
 stored_from start c = Some (record { start = start; literals = c })
 
--- a known clip stays known, since what is stored for it stays
+-- a known clip stays known, since what is stored for it doesn't change
 pub known_stays : (a b : CallerView) (es : History) (clip : ClipValue) → CallerStep a b es
     → IsKnown a clip
     → IsKnown b clip × (clip_clause b clip ≡ clip_clause a clip)
@@ -282,8 +282,8 @@ synced_once u v (x ∷ xs) (y ∷ ys) meets =
       ((grown, rest.0.1 ∙ ap (λ (h : History). h ++ grown) (sym meets.1.one)), rest.1),
     )
 
--- if a pass has seen all that each of the others has seen, then after they meet it, all have seen
--- the history of that pass
+-- if a pass has seen all that each of the others has seen, and then meets them in turn, all have
+-- seen its history afterwards
 synced_again : (h : History) (v w : View) (ys zs : List View) → v.seen ≡ h
     → AllByRecursion (λ y. (more : History) × (h ≡ y.seen ++ more)) ys → SyncInTurn v ys w zs
     → (w.seen ≡ h) × AllSaw h zs

@@ -186,8 +186,8 @@ spent-among s set (e ∷ h) =
       | inr other ↦ subst (λ (g : History). spent s g ≤ spent s (e ∷ h)) (sym (among-other set e h other)) (omega (arith, spent-among s set h, spent-rest s e h))
     ]
 
--- if the streams of a set find no clause of other streams, the events of these streams are a legal
--- history
+-- if the streams of a set find no clause of a stream outside the set, the events of the set's
+-- streams are a legal history
 pub restriction_legal : (f : Cnf) (p : LayoutValue) (set : ℕ → Bool) (h : History) → Fits p f
     → IsLegal f p h → AllByRecursion (FindsWithin p set) h → IsLegal f p (among set h)
 restriction_legal f p set h fits legal finds = record {

@@ -10,8 +10,8 @@ use Rattle.lrup_text.specs.Lines.{IsStreamNumber, IsStreamLiteral}
 use Rattle.lrup_text.specs.internal.Rests.{Spot, Tracks}
 use Rattle.lrup_text.specs.Cubes.{IsCubeLine, IsTextFault}
 
--- The bytes that, before a cube's text, make an import of it: the number 1 and the letter i, each
--- followed by a space.
+-- The bytes that, put before a cube's text, make it the text of an import: the number 1 and the
+-- letter i, each followed by a space.
 abbrev pub import_front : List ℕ
 import_front = 49 ∷ space ∷ letter_i ∷ space ∷ []
 

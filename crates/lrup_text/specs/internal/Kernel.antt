@@ -29,7 +29,7 @@ abbrev pub ReadsNumber : List ℕ → ℕ → ℕ → ℕ → Type 0
 ReadsNumber = ReadsWord decimal IsStreamNumber
 
 -- The text has words from index `start` up to `end`, with a space after each. The buffer has these
--- words, too, after the first `first` words that it already had.
+-- words, too, after `first` words that it already had.
 pub record ReadsWords {A : Type 0} (spell : A → List ℕ) (Fits : A → Type 0) (text : List ℕ)
     (start : ℕ) (old : List A) (first : ℕ) (new : List A) (count end : ℕ) : Type 0 where
   pub more : List A

@@ -36,7 +36,8 @@ abbrev pub ClauseEnds : Limits → Bool → List ℕ → Type 0
 ClauseEnds limits true rest = rest ≡ line_feed ∷ []
 ClauseEnds limits false rest = ListFollows limits false 0 rest
 
--- the further literals of an import or addition that has this many, and what comes after them
+-- the further literals of an import or addition that already has this many, and what comes after
+-- them
 pub record ClauseFollows (limits : Limits) (imports : Bool) (literals : ℕ)
     (rest : List ℕ) : Type 0 where
   pub words : List (List ℕ)
@@ -64,8 +65,8 @@ pub record ImportFollows (limits : Limits) (rest : List ℕ) : Type 0 where
   pub is : rest ≡ letter_i ∷ after
   pub lits : LiteralsFollow limits after
 
--- after this many literals: more of the clause, or, if the kind of the line is still open, a
--- deletion or an import
+-- after this many literals: more of the clause, or, if the kind of the line is still open, the rest
+-- of a deletion or of an import
 abbrev pub BodyFollows : Limits → Bool → ℕ → List ℕ → Type 0
 BodyFollows limits imports literals rest =
     ClauseFollows limits imports literals rest

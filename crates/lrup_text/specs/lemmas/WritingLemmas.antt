@@ -65,7 +65,7 @@ pub breaks_held : {a b : Option (List ℕ)} {h : List ℕ} (went rest : List ℕ
     → Appends a b went → Breaks a b h []
 breaks_held {a} {b} {h} went rest is appends = record { went = went; rest = rest; appends = appends; is = append-nil h ∙ is }
 
--- if a result is an error, what holds in the case of an error holds of it (at the exit of a `?`)
+-- for an error, `MatchResult` holds if its second case does (used where a `?` returns the error)
 pub at_err : {T E : Type 0} (r : Result T E) (P Q : Type 0) → IsErr r → Q
     → MatchResult r (λ _. P) (λ _. Q)
 at_err (Ok x) P Q h q = cc
@@ -78,8 +78,8 @@ breaks_from_empty r {a} {b} {h} {z} empty err broken =
     let from : Breaks a b [] z = subst (λ (x : List ℕ). Breaks a b x z) empty broken in
     at_err r _ _ err (from.went, from.rest, from.is, from.appends)
 
--- `Breaks` for an equal text; below, two calls for a text that consists of their two texts, or that
--- begins with them
+-- `Breaks` holds for an equal text, too. The next two lemmas are about two calls that write a text,
+-- or the beginning of a text, in two parts.
 pub breaks_as : {a b : Option (List ℕ)} {h x z : List ℕ} → Breaks a b h x → z ≡ x → Breaks a b h z
 breaks_as {a} {b} {h} broken is = subst (λ t. Breaks a b h t) (sym is) broken
 
@@ -107,14 +107,14 @@ pub breaks_first : {a b : Option (List ℕ)} {h x z : List ℕ} → Breaks a b h
     → z ≡ x ++ rest → Breaks a b h z
 breaks_first {a} {b} {h} broken rest is = subst (λ t. Breaks a b h t) (sym is) (breaks_more broken rest)
 
--- after a call that put its bytes, the result of the last call says what became of both texts
+-- if the first of two calls put its bytes, the second call's result says what became of both texts
 pub puts_all_next : {E : Type 0} (r : Result (Unit {0}) E) {a b : Option (List ℕ)}
     (c : Option (List ℕ)) {h i : List ℕ} (j : List ℕ) {x : List ℕ} (y : List ℕ) {z : List ℕ}
     → Puts a b h i x → PutsAll r b c i j y → z ≡ x ++ y → PutsAll r a c h j z
 puts_all_next (Ok u) c j y puts next is = puts_next puts next is
 puts_all_next (Err e) {a} {b} c {h} j y puts next is = subst (λ t. Breaks a c h t) (sym is) (breaks_then puts next)
 
--- if a call then writes what is still held, the whole text was written, or a prefix after a fault
+-- if a call then writes what is still held, the whole text was written, or, after a fault, a prefix
 pub writes_all_next : {E : Type 0} (r : Result (Unit {0}) E) {a b : Option (List ℕ)}
     (c : Option (List ℕ)) {i z : List ℕ} → Puts a b [] i z → WritesText r b c i → WritesText r a c z
 writes_all_next (Ok u) {a} {b} c {i} {z} puts next = subst (λ t. Appends a c t) (sym puts.is) (appends_then a b c puts.went i puts.appends next)

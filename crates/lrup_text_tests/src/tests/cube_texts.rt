@@ -1,5 +1,5 @@
-//! What a few texts mean, proved only from the definition of a cube's text: if that were wrong, the
-//! proofs would fail.
+//! What a few texts mean, proved only from the definition of a cube's text: if the definition were
+//! wrong, the proofs would fail.
 ghost use Rattle.std.specs.Prelude.{◌≡◌, ◌≤◌, [], ◌∷◌, ℕ, codes, pos, negsuc};
 ghost use Rattle.lrup_model.specs.Cube.{CubeValue, IsCubeOf};
 ghost use Rattle.lrup_model.specs.Literal.{max_variable};
@@ -12,7 +12,7 @@ pub fn cubes_are_refused()
     ensures line_feed { (vars : ℕ) (cube : CubeValue) → ¬ IsCubeText vars (codes "1 0") cube }
 {}
 
-/// A text may repeat a literal, and the cube is the set of its literals, in any order.
+/// A text may repeat a literal, and the cube is the set of the text's literals, in any order.
 pub fn a_text_is_of_a_set()
     ensures { (cube : CubeValue) → IsCubeOf (pos 1 ∷ negsuc 1 ∷ []) cube
         → IsCubeText 2 (codes "-2 1 -2 0\n") cube }

@@ -47,8 +47,8 @@ fn cubes_are(rt: &impl Abort, alloc: Global, rows: &[Row<'_>]) -> Result<(), All
     Ok(())
 }
 
-/// Texts of cubes, and texts with each fault. A variable out of range counts only in a text that is
-/// neither misspelled nor too long.
+/// Texts of cubes, and texts with each fault. A variable out of range is reported only if the text
+/// is neither misspelled nor too long.
 static CUBES: &[Row] = &[
     ("-2 0\n", 2, "cube -2"),
     ("-2 1 -2 0\n", 2, "cube 1 -2"),
@@ -81,13 +81,13 @@ fn cubes_are_read(rt: HostRuntime) -> Result<(), AllocError> {
     cubes_are(&rt, rt.alloc(), CUBES)
 }
 
-/// Misspelled texts, separated by `|`; in the last ones a variable is out of range before the
-/// misspelling shows.
+/// Misspelled texts, separated by `|`; in the last texts, a variable out of range comes before the
+/// misspelling.
 const MISSPELLED: &str = "|\n|-2 0|+2 0\n|-2 0\n0\n|-2 0\n\n|-2 0\r\n|-2  0\n| -2 0\n|-2 0 \n|\
     -2\t0\n|-2 00\n|02 0\n|-0 0\n|- 2 0\n|--2 0\n|-2 d 0\n|1,2 0\n|1 0 2 0\n|c\n-2 0\n|0\n-2 0\n|\
     3 0|3 x|3 02 1111111111111111111 0\n|999999999999999999";
 
-/// Also tries each proper prefix of a cube's text.
+/// Tries these texts, and each proper prefix of a cube's text.
 #[test]
 fn misspelled_cubes(rt: HostRuntime) -> Result<(), Fail> {
     for text in MISSPELLED.split('|') {

@@ -181,7 +181,8 @@ fn put_fails<W: Sink>(bytes: &[u8], sink: &mut W) -> bool
 /// More bytes than two buffers hold.
 static MANY: [u8; 10_000] = [b'x'; 10_000];
 
-/// Writes `MANY` to a device that fails at call number `fails_at`; if that is 0, it never fails.
+/// Writes `MANY` to a device that fails at call number `fails_at`; if `fails_at` is 0, no call
+/// fails.
 fn put_many(rt: &impl Abort, fails_at: usize, calls: usize) {
     let mut sink = Writing::new(FailsOnce::new(fails_at));
     let fails = put_fails(&MANY, &mut sink);

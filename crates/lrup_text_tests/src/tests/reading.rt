@@ -27,7 +27,7 @@ fn feed_pieces(rt: &impl Abort, reader: &mut LineReader, row: Row<'_>, cut: usiz
     feed(rt, reader, rest, used.saturating_sub(front.len()), given);
 }
 
-/// Feeds a text byte by byte, up to the last one used.
+/// Feeds a text byte by byte, up to the last byte that is used.
 fn feed_bytes(rt: &impl Abort, reader: &mut LineReader, row: Row<'_>) {
     let (text, used, given) = row;
     let bytes = text.as_bytes();
@@ -111,7 +111,7 @@ const TOO_LONG: Given = Given::Bad(LineFault::TooLong);
 
 const RAT_HINT: Given = Given::Bad(LineFault::RatHint);
 
-/// Texts that aren't the beginning of a line, how many bytes show that, and why they aren't.
+/// Texts that aren't the beginning of a line, how many bytes it takes to see that, and the fault.
 static FAULTY: &[Row] = &[
     ("\n", 1, SPELLING),
     ("05 2 0 0\n", 1, SPELLING),

@@ -84,7 +84,7 @@ static WRITTEN: &[(&str, Given)] = &[
     ),
 ];
 
-/// The sink fails at each write in turn, and then at none. The written text is read back.
+/// Each write to the sink fails in turn, and then no write fails. The written text is read back.
 #[test]
 fn lines_are_written(rt: HostRuntime) -> Result<(), Fail> {
     for &(text, given) in WRITTEN {

@@ -42,7 +42,7 @@ static ROWS: [(&[i64], &[&str], &[Said]); 13] = [
         &["5 2 0 1 2 0\n6 1 0 1 0\n"],
         &[(1, 0, UnsatisfiableUnder, Bad(2, Fault::NoConflict))],
     ),
-    // Any stream may add the clause within the cube, and any the empty clause.
+    // Any stream may add the clause within the cube, and any stream may add the empty clause.
     (&[-2], &[UNIT, SECOND], &[WITHIN, WITHIN]),
     (&[-2], &["5 2 0 1 0\n", SECOND], &[BAD, WITHIN]),
     (

@@ -109,7 +109,7 @@ fn gates_get_the_calls_of_their_streams(rt: HostRuntime) -> Result<(), Fail> {
     Ok(())
 }
 
-/// Turns are round-robin, from stream 1 on, and take one line each.
+/// The streams take turns, beginning with stream 1, and take one line in each turn.
 #[test]
 fn serial_takes_a_line_of_each_stream(rt: HostRuntime) -> Result<(), Fail> {
     let tape = Tape::new(rt.alloc(), 200)?;
@@ -123,7 +123,7 @@ fn serial_takes_a_line_of_each_stream(rt: HostRuntime) -> Result<(), Fail> {
     Ok(())
 }
 
-/// Runs with these gates: stream 1 fetches a hint that never comes, and retries three times.
+/// Runs with these gates; stream 1 fetches a clause that never comes, and retries three times.
 fn pauses_in_vain<T: Machine, G: Gate + Send + Drop>(
     rt: &T,
     mode: Mode,

@@ -13,8 +13,8 @@ use std::thread::yield_now;
 use stream_check::{Gate, Report};
 use test_support::Pieces;
 
-/// The stream, identity and attempt of a fetch; attempt 0 means a publish. With identity 0, the
-/// last number is that of a read of the stream; if it is 0, too, the call is the stream's end.
+/// The stream, identity and attempt of a fetch; attempt 0 means a publish. If the identity is 0,
+/// the last number is the number of a read of the stream, and 0 means the stream's end.
 type Call = [u64; 3];
 
 /// A thread waits at the first call until the second has been made this many times.

@@ -17,8 +17,8 @@ fn a_held_stream_finds_the_others_clause(rt: HostRuntime) -> Result<(), Fail> {
     says(&rt, CITING, &found, &[REFUTES, ADDS])
 }
 
-/// Each stream's first fetch waits for the other's, which would time out if one thread checked
-/// both.
+/// Each stream's first fetch waits for the other stream's. If one thread checked both streams, the
+/// first wait would time out.
 #[test]
 fn workers_one_after_the_other(rt: HostRuntime) -> Result<(), Fail> {
     let holds = [([1, 1, 1], [2, 3, 1], 1), ([2, 3, 1], [1, 1, 1], 1)];
@@ -115,7 +115,7 @@ const RETIRED: [Said; 2] = [
     (0, 0, Unknown, Bad(1, Fault::Retired(5))),
 ];
 
-/// The first two streams publish at neighbouring identities, and the third reads both clauses.
+/// The first two streams publish under neighbouring identities, and the third reads both clauses.
 const NEIGHBOURS: [&str; 3] = [
     "5 2 0 1 2 0\n",
     "6 -2 0 3 4 0\n",
@@ -133,7 +133,7 @@ fn always_says<T: Machine>(rt: &T, row: Row<'_>) -> Result<(), Fail> {
 }
 
 /// Stream 1 finds 6 vacant before stream 2 begins, and fetches it again once it is published. The
-/// last wait ends immediately; it checks that attempt 1 came before.
+/// last wait ends immediately; it only checks that attempt 1 was made before attempt 2.
 static SECOND_TRY: Row = (
     &CITING,
     1,
@@ -162,7 +162,7 @@ fn found_before_it_was_retired(rt: HostRuntime) -> Result<(), Fail> {
     always_says(&rt, FOUND_FIRST)
 }
 
-/// Stream 1 fetches 1 a second time for the line after the deletion.
+/// Stream 1's second fetch of 1 is for the line after the deletion.
 static RETIRED_FIRST: Row = (&RETIRING, 0, &[([2, 5, 1], [1, 1, 1], 2)], &RETIRED);
 
 #[test]
@@ -170,8 +170,8 @@ fn retired_before_it_was_found(rt: HostRuntime) -> Result<(), Fail> {
     always_says(&rt, RETIRED_FIRST)
 }
 
-/// The first two streams wait for each other at their last fetch, and the third until both have
-/// published.
+/// The first two streams wait for each other at their last fetch, and the third waits until both
+/// have published.
 static AT_ONCE: Row = (
     &NEIGHBOURS,
     0,

@@ -1,4 +1,5 @@
-//! A stream that cites no other stream has one report: in runs, and by their contracts.
+//! A stream that cites no other stream has only one possible report: runs show it, and their
+//! contracts imply it.
 ghost use Rattle.std.specs.Prelude.{◌≡◌, [], Some, false, true, codes, length, map, IfOk};
 ghost use Rattle.std.specs.List.{AllByRecursion};
 ghost use Rattle.stream_check.specs.Excuses.{OutOfMemory, IsExcused};
@@ -47,8 +48,8 @@ fn two_readers<'a>(
 }
 
 /// A run with threads. Its contract implies three things: the first stream has only one possible
-/// report; if no stream found a clause live that is retired at the end, the verdict is that of an
-/// order of the lines; and a stream that ran out of memory had no room left.
+/// report; if no stream found a clause live that is retired at the end, some order of the lines
+/// gives the verdict; and a stream that ran out of memory had no room for another dropped identity.
 fn run_in_threads<'a, T: Machine>(
     rt: &T,
     first: &'a str,
@@ -104,7 +105,7 @@ fn first_report(reports: &[Report], readers: &[Pieces<'_>]) -> Result<Report, Fa
     }
 }
 
-/// The report of the first stream beside this neighbour. It is the only one that the stream may
+/// The report of the first stream beside this neighbour. It is the only report that the stream may
 /// have on its own, unless memory ran out.
 fn said_beside<T: Machine>(rt: &T, mode: Mode, neighbour: &str) -> Result<Report, Fail>
     ensures { IfOk result (λ report. ¬ IsExcused OutOfMemory report

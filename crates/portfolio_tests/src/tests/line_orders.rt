@@ -1,5 +1,5 @@
-//! Runs with threads have the reports of some order of the lines, checked on one thread. This may
-//! fail if a clause that another stream has cited is deleted.
+//! Runs with threads have the reports of some order of the lines, checked on one thread. This
+//! needn't hold if a clause that another stream has cited is deleted.
 ghost use Rattle.std.specs.Prelude.{◌≡◌, ◌≤◌, length};
 ghost use Rattle.lrup_model.specs.Event.{History};
 ghost use Rattle.lrup_model.specs.Layout.{IsStream};
@@ -199,7 +199,7 @@ const DELETING_IMPORTED: [&str; 2] = [
 ];
 
 /// Stream 2 finds 5 once it is published. Then stream 1 waits until stream 2 fetches 7, and stream
-/// 2 until 7 is published.
+/// 2 waits until 7 is published.
 static FINDS_BOTH: [Hold; 3] = [
     ([2, 5, 1], [1, 5, 0], 1),
     ([1, 5, 0], [2, 7, 1], 1),
@@ -269,7 +269,7 @@ struct Dice {
 }
 
 impl Dice {
-    /// One of these numbers.
+    /// Picks one of the given numbers.
     fn pick(&mut self, numbers: &[u64]) -> u64 {
         self.state ^= self.state << 13;
         self.state ^= self.state >> 7;

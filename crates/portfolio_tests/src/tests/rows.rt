@@ -24,7 +24,8 @@ static ROWS: [(&[&str], &[Said]); 3] = [
     ),
 ];
 
-/// Fails if a run always reports that memory ran out, or that a ring failed at a stream's end.
+/// This test would fail if every run reported that memory ran out, or that a ring failed at a
+/// stream's end.
 #[test]
 fn always_a_fault(rt: HostRuntime) -> Result<(), Fail> {
     for mode in BOTH {
@@ -37,8 +38,8 @@ fn always_a_fault(rt: HostRuntime) -> Result<(), Fail> {
     Ok(())
 }
 
-/// Checks the stream's report in both kinds of run. With threads it is read to its end or to the
-/// read that fails.
+/// Checks the stream's report in both kinds of run. With threads, the stream is read to its end or
+/// to the read that fails.
 fn one_says<T: Machine>(
     rt: &T,
     options: Options,
@@ -104,8 +105,8 @@ fn repeated(alloc: Global, text: &str, times: usize) -> Result<String, Fail> {
     Ok(all)
 }
 
-/// The largest number of literals, all the same, with room for one; and the largest number of
-/// hints, the first of them bad.
+/// The largest number of literals, all equal, with room for one literal; and the largest number of
+/// hints, of which the first is bad.
 #[test]
 fn longest_lines(rt: HostRuntime) -> Result<(), Fail> {
     let alloc = rt.alloc();
@@ -216,7 +217,7 @@ fn no_layout_no_read(rt: HostRuntime) -> Result<(), Fail> {
     Ok(())
 }
 
-/// Each cited line comes in time if stream 1 is first and each turn takes one line.
+/// Each cited clause comes in time if stream 1 is first and each turn takes one line.
 static TURNS: [(&[&str], &[Said]); 3] = [
     // With two lines per turn, line 2 of the first stream would miss 6.
     (&CITING, &[REFUTES, ADDS]),

@@ -63,7 +63,7 @@ fn reports_of_next<T: Machine>(rt: &T, next: &Formula, stream: &str) -> Result<V
     Ok(reports)
 }
 
-/// The four clauses; these and `2`; and `2` in place of the first.
+/// The four clauses; the four clauses and `2`; and these five without the first.
 const FOUR: &str = "p cnf 2 4\n1 2 0\n-1 2 0\n1 -2 0\n-1 -2 0\n";
 
 const WITH_5: &str = "p cnf 2 5\n1 2 0\n-1 2 0\n1 -2 0\n-1 -2 0\n2 0\n";
@@ -97,8 +97,8 @@ static SAVED: [(&[&str], &str, &str); 9] = [
         WITHOUT_1,
         "5 0 4 2 3 0\n",
     ),
-    // A clause stays if one stream keeps it: only one drops a clause; each drops a different one;
-    // one drops a clause of the other.
+    // A clause is saved if either stream keeps it. Three cases: only one stream drops a clause;
+    // each stream drops a different clause; one stream drops a clause of the other.
     (&["5 2 0 1 2 0\n5 d 1 0\n", ""], WITH_5, "6 0 5 3 4 0\n"),
     (&["5 d 1 0\n", "6 d 2 0\n"], FOUR, ""),
     (

@@ -97,7 +97,7 @@ impl Tape {
     }
 }
 
-/// A sink onto a tape. Write number `fails_at`, counted from 1, fails; if that is 0, none does.
+/// A sink onto a tape. Write number `fails_at`, counted from 1, fails; for 0, no write fails.
 #[derive(Clone, Copy)]
 pub(super) struct Pen<'a> {
     tape: &'a Tape,
@@ -236,8 +236,8 @@ static ROWS: [(&[Step], &str); 14] = [
         ],
         "lrupd: stream 3: waits for 555\nlrupd: stream 3: waits for 555\n",
     ),
-    // The count is reported ten seconds after the first look at the clock, and then ten after the
-    // last report.
+    // The count is reported ten seconds after the first look at the clock, and then ten seconds
+    // after the last report.
     (&[Adds(64), Later(9_999), Adds(64), Later(1), Adds(63)], ""),
     (
         &[Adds(64), Later(10_000), Adds(704), Later(9_999), Adds(64)],
@@ -301,7 +301,7 @@ const THREE: &[Step] = &[
     Over,
 ];
 
-/// On one thread no wait is reported.
+/// On one thread, no wait is reported.
 #[test]
 fn a_watch_of_one_thread_reports_no_waits(rt: HostRuntime) -> Result<(), Fail> {
     let (text, writes) = reported(rt.alloc(), true, 0, THREE)?;
@@ -324,7 +324,7 @@ fn nothing_is_written_after_a_failed_write(rt: HostRuntime) -> Result<(), Fail> 
     Ok(())
 }
 
-/// A watch passes each call on to its inner gate, with a sink or without; without one it writes
+/// A watch passes each call on to its inner gate, with a sink or without. Without a sink, it writes
 /// nothing.
 #[test]
 fn a_watch_passes_calls_on(rt: HostRuntime) -> Result<(), Fail> {

@@ -5,7 +5,8 @@ use Rattle.lrup_model.specs.Propagation.{IsConflict, IsUnit}
 use Rattle.propagate.specs.declared.marks.ClauseStatus.{ClauseStatus}
 use Rattle.propagate.specs.declared.marks.ClauseStatus.TheVariants.{Nothing, One, More}
 
--- the literals that aren't false are: none; one, which isn't true either; or anything else
+-- which literals aren't false: none (`Nothing`); only this one, which isn't true either (`One`);
+-- any others (`More`)
 abbrev pub HasStatus : List ℤ → Clause → ClauseStatus → Type 0
 HasStatus falses clause Nothing = IsConflict falses clause
 HasStatus falses clause (One literal) = IsUnit falses clause literal

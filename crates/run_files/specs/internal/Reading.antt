@@ -39,7 +39,7 @@ IsUnsized {R = R} reading first faults.Sizes =
 IsUnsized reading first faults.Memory = Unit {0}
 IsUnsized reading first fault = ⊥
 
--- the fault of reading a cube's file, from the same fault of reading the formula's file
+-- the fault of reading a cube's file, given what the fault would be for the formula's file
 abbrev pub of_cube_file : CommandFault → CommandFault
 of_cube_file faults.Unread = faults.CubeUnread
 of_cube_file fault = fault

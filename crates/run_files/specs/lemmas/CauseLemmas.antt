@@ -1,4 +1,4 @@
--- A cause of one step is a cause for the words and the files.
+-- If a step of round 1 has a fault, its cause is why round 1 has no report.
 use Rattle.std.proofs.Common.{◌≡◌, List, map, Option, None, Some, inl, inr, sym, subst}
 use Rattle.lrup_model.specs.Cube.{CubeValue}
 use Rattle.lrup_model.specs.Formula.{Cnf}
@@ -12,7 +12,7 @@ use Rattle.run_files.specs.declared.fault.CommandFault.TheVariants as faults
 
 module _ (files : FilesView) (words : List Text) (given : CommandLine)
     (line : IsCommandLineOf words given) where
-  -- A cause of any step is a cause for the words and the files.
+  -- The cause of a fault in any step meets `IsCause`.
   pub read_cause : (fault : CommandFault) (after : files.its.State)
       → IsReadCause files given fault after → IsCause files words fault after
   read_cause faults.Unread after cause = (given, line, inl cause)

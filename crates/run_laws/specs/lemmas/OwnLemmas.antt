@@ -40,7 +40,8 @@ own-blocks p set s (b ∷ bs) all =
           ∙ own-blocks p set s bs all.1 ∙ sym (ap joined (blocks-other b bs s other))
     ]
 
--- streams that are judged by their blocks are judged by their own events among those of all blocks
+-- streams that are judged by their blocks are judged by their own events in the history of all
+-- blocks
 pub ordered_judged : (run_params : RunParamsValue) (all set : ℕ → Bool) (bs : List Block) (s : ℕ)
     (streams : List Stream) (reports : List Report)
     → AllByRecursion (IsBlockWithin run_params.layout all) bs

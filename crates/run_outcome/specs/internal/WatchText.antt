@@ -13,7 +13,7 @@ abbrev pub wait_line : ℕ → ℕ → List ℕ
 wait_line s id =
     codes "lrupd: stream " ++ decimal s ++ codes ": waits for " ++ decimal id ++ codes "\n"
 
--- the line for how many clauses a stream has added so far
+-- the line that says how many clauses a stream has added so far
 abbrev pub count_line : ℕ → ℕ → List ℕ
 count_line s added =
     codes "lrupd: stream " ++ decimal s ++ codes ": " ++ decimal added ++ codes " added\n"

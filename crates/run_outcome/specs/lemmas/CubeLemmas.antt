@@ -61,8 +61,8 @@ stream_publishes_within c stream blocks report judged is =
 
 -- ---- the formula under the cube
 
--- if a publishable clause is within the cube, or a later one is, the formula is unsatisfiable under
--- the cube
+-- if a publishable clause is within the cube, or a later clause is, the formula is unsatisfiable
+-- under the cube
 refutes_either : (f : Cnf) (cube : CubeValue) (c : Clause) (later : Bool) → IsPublishable f c
     → (is_within cube c || later) ≡ true
     → (later ≡ true → IsUnsatisfiableUnder f cube) → IsUnsatisfiableUnder f cube

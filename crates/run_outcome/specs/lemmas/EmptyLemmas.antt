@@ -127,7 +127,8 @@ from_zero : (c : Clause) → (length c == 0) ≡ true → c ≡ []
 from_zero [] h = refl
 from_zero (l ∷ c) h = absurd (omega (arith, eqb-true (length (l ∷ c)) 0 h))
 
--- if a clause that follows is the empty clause, or a later one is, the empty clause follows
+-- if a clause that follows from the formula is empty, or a later clause is, the empty clause
+-- follows
 follows_either : (f : Cnf) (c : Clause) (later b : Bool) → (length c == 0) ≡ b → Follows f c
     → ((length c == 0) || later) ≡ true
     → (later ≡ true → Follows f []) → Follows f []

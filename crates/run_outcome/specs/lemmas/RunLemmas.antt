@@ -36,7 +36,7 @@ no_fault p faults.BadStreamCount is (a, b, inl none) = omega (arith, is.some_str
 no_fault p faults.BadStreamCount is (a, b, inr many) = omega (arith, is.streams, many)
 no_fault p faults.RowTooLong is bad = omega (arith, is.row, bad.4)
 
--- the parameters that a run makes are those of its formula, options and streams
+-- a run's parameters are made from its options, cube, formula and number of streams
 pub run_params_made : (options : OptionsValue) (cube : CubeValue) (f : Cnf) (p : LayoutValue)
     (n streams tries : ℕ) (made : RunParamsValue)
     → made ≡ record { layout = p; cube = cube; tries = tries } → p ≡ layout_of options f n
@@ -56,7 +56,7 @@ none_of_layout options f p n streams same count is fault bad =
 no_error : {T E : Type 0} {value : T} {e : E} → Ok value ≡ Err e → ⊥
 no_error is = cc
 
--- out of memory isn't a layout fault
+-- the fault `Memory` isn't a layout fault
 pub not_layout : {T : Type 0} (result : Result T RunFault) (fault : LayoutFault)
     → IfErr result (λ e. e ≡ Memory)
     → result ≡ Err (Layout fault) → ⊥

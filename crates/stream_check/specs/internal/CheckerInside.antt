@@ -107,8 +107,9 @@ value_of state pending ending = record {
   ending = ending;
 }
 
--- An unfinished checker can read on, one that ran out of memory has no room for another dropped
--- identity, `vars` is the layout's number of variables, and there are fewer than 2^63 tries.
+-- An unfinished checker can read on; a checker that ran out of memory has no room for another
+-- dropped identity; `vars` is the layout's number of variables; and there are fewer than 2^63
+-- tries.
 pub record IsSound (params : StreamParams) (dropped : DroppedIdsValue) (vars : ℕ)
     (reader : ReaderState) (ending : Option Ending) : Type 0 where
   pub reads : ending ≡ None → reader ≡ Ok (read_of reader)

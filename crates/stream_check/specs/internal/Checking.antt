@@ -1,5 +1,5 @@
--- What the parts of a checker do: a lookup, the hints of an addition, an addition, the identities
--- of a deletion (this project's own).
+-- What the parts of a checker do: a lookup, the hints of an addition, an addition, and the
+-- identities of a deletion (this project's own).
 use Rattle.std.specs.Prelude.{◌≡◌, ◌==◌, ◌++◌, ◌||◌, ◌&&◌, ℕ, Bool, true, false, List, [], ◌∷◌, length, Result, Ok, Err}
 use Rattle.std.specs.List.{AllByRecursion}
 use Rattle.lrup_model.specs.Clause.{Clause}
@@ -26,8 +26,8 @@ use Rattle.stream_check.specs.Lookup.{AreFound}
 use Rattle.stream_check.specs.Additions.{FailsHints}
 use Rattle.stream_check.specs.Deletions.{JudgesDeletion, StopsDeletion}
 
--- a live clause that a fetch gave is known in the view, every clause of the view follows, and the
--- layout has the formula's variables
+-- a live clause that a fetch gave is known in the view, every clause of the view follows from the
+-- formula, and the layout has the formula's variables
 abbrev pub Gives : CallerView → Fetched → Type 0
 Gives view fetched.Vacant = Unit {0}
 Gives view (fetched.Live clip) =
@@ -61,7 +61,7 @@ Shows params is_dropped formula clause hints history (Ok _) =
 Shows params is_dropped formula clause hints history (Err fault) =
     FailsHints params is_dropped clause hints history fault
 
--- the result if these hints are left after the conflict: none may be
+-- the result if these hints are left after the conflict: no hint may be left
 abbrev pub excess_of : List ℕ → Result (Unit {0}) Fault
 excess_of [] = Ok tt
 excess_of (hint ∷ hints) = Err (faults.Excess hint)
@@ -73,8 +73,8 @@ line_verdict (Err fault) = Bad 0 fault
 
 -- Deletions
 
--- Deleting one of the stream's own identities: the reply to one retire decides. No other deletion
--- has an event.
+-- Deleting one of the stream's own identities: the reply to one retire decides. Deleting any other
+-- identity has no event.
 abbrev pub DeletesOwn : StreamParams → ℕ → List ℕ → List ℕ → History → Result (Unit {0}) LineStop
     → Type 0
 DeletesOwn params id old new history (Ok _) =
@@ -84,8 +84,8 @@ DeletesOwn params id old new history (Err (stops.Bad fault)) =
     × (new ≡ old)
 DeletesOwn params id old new history (Err stops.Memory) = ⊥
 
--- deleting an identity of the formula or of another stream: it joins the dropped ones, unless it is
--- already among them
+-- deleting an identity of the formula or of another stream: it joins the dropped identities, unless
+-- it is already among them
 abbrev pub DropsShared : ℕ → List ℕ → List ℕ → Result (Unit {0}) LineStop → Type 0
 DropsShared id old new (Ok _) =
     (is_among old id ≡ false) × ((j : ℕ) → is_among new j ≡ (is_among old j || id == j))

@@ -31,8 +31,8 @@ run-fetches m (events.fetch s id r ∷ es) h = run-fetches m es h.1
 run-fetches m (events.publish s id c r ∷ es) h = absurd h.0
 run-fetches m (events.retire s id r ∷ es) h = absurd h.0
 
--- a line that violates this condition or a later one does so with other events, too, if these are
--- empty whenever the old ones are
+-- if a line violates this condition or a later one, it still does with other events that are empty
+-- whenever the old ones are
 pub violates_maps : (Holds : Type 0) (its : Fault) (es fs : History) (fault : Fault) (A B : Type 0)
     → (es ≡ [] → fs ≡ []) → (A → B) → Violates Holds its es fault A → Violates Holds its fs fault B
 violates_maps Holds its es fs fault A B none next (inl bad) = inl (bad.0, none bad.1, bad.2)

@@ -1,4 +1,4 @@
--- What is left after one more good line.
+-- The context and the counts after one more good line.
 use Rattle.std.proofs.Common.{◌≡◌, ◌<◌, ◌+◌, ◌&&◌, ◌||◌, ℕ, ℤ, Bool, true, false, max, List, [], ◌∷◌, ◌++◌, length, length-append, refl, sym, ap, ◌∙◌, arith}
 use mathlib.Core.Path.{fun_ext}
 use Rattle.std.specs.Prelude.{◌==◌, map}
@@ -29,7 +29,7 @@ last-snoc c lines line =
     ap (fold max c.layout.clauses) (ap ids (additions-append lines (line ∷ [])) ∙ map-append (λ a. a.0) (additions_of lines) (additions_of (line ∷ [])))
     ∙ fold-append max c.layout.clauses (ids (additions_of lines)) (ids (additions_of (line ∷ [])))
 
--- a good addition has a larger identity than those before it
+-- a good addition has a larger identity than the additions before it
 pub last_below : (c : StreamParams) (st : StreamContext) (id : ℕ) (lits : List ℤ) (hints : List ℕ)
     (es : History) → JudgesLine c st (Addition id lits hints) es Good → st.last < id
 last_below c st id lits hints es j = j.1.above

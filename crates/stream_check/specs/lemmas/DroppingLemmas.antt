@@ -20,8 +20,7 @@ use Rattle.stream_check.specs.lemmas.StoppingLemmas.{drops_none}
 use Rattle.stream_check.specs.Streams.{Stream, RunParamsValue}
 use Rattle.stream_check.specs.Dropping.{AreDroppedBy, HasDropped, HaveDropped}
 
--- if a checker is unfinished, all lines were good, and its dropped identities are those of the
--- lines
+-- if a checker is unfinished, all lines were good, and it has dropped what these lines drop
 good_drops : (c : StreamParams) (bytes : List ℕ) (blocks : List History) (now : GoingState)
     (ids : List ℕ) → ReachesGoing c bytes blocks now
     → ((id : ℕ) → is_among ids id ≡ now.context.is_dropped id) → AreDroppedBy c bytes blocks ids

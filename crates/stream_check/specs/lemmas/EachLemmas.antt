@@ -14,7 +14,7 @@ module _ {X Y : Type 0} (Holds : ℕ → X → Y → Type 0) where
   each_count s (x ∷ xs) [] each = absurd each
   each_count s (x ∷ xs) (y ∷ ys) each = ap suc (each_count (s + 1) xs ys each.1)
 
-  -- `Holds` is true for the elements at one index
+  -- `Holds` is true for the elements at any index
   pub each_from : (s : ℕ) (xs : List X) (ys : List Y) → Each Holds s xs ys
       → (k : ℕ) (x : X) (y : Y) → slice_get xs k ≡ Some x → slice_get ys k ≡ Some y
       → Holds (s + k) x y
@@ -31,7 +31,7 @@ module _ {X Y : Type 0} (Holds : ℕ → X → Y → Type 0) where
       let next : s + 1 + k ≡ s + suc k = omega arith in
       subst (λ n. Holds n x y) next (each_from (s + 1) xs ys each.1 k x y at there)
 
-  -- an element of the second list has a counterpart in the first
+  -- each element of the second list has a counterpart in the first
   pub each_second : (s : ℕ) (xs : List X) (ys : List Y) → Each Holds s xs ys → (k : ℕ) (y : Y)
       → slice_get ys k ≡ Some y → (x : X) × Holds (s + k) x y
   each_second s [] [] each k y there = absurd (cc)
@@ -96,8 +96,8 @@ each_map Also f s (x ∷ xs) [] each follows = absurd each
 each_map Also f s (x ∷ xs) (y ∷ ys) each follows =
     (follows s x y each.0, each_map Also f (s + 1) xs ys each.1 follows)
 
--- if `Holds` implies `Also` for the streams s to `last`, and these are all, `Also` is true for each
--- stream
+-- if there are only the streams s to `last`, and `Holds` implies `Also` for them, `Also` is true
+-- for each stream
 pub each_within : {X Y : Type 0} {Holds Also : ℕ → X → Y → Type 0} (last s : ℕ) (xs : List X)
     (ys : List Y) → s + length xs ≤ last + 1 → Each Holds s xs ys
     → ((t : ℕ) (x : X) (y : Y) → s ≤ t → t ≤ last → Holds t x y → Also t x y) → Each Also s xs ys
@@ -110,8 +110,8 @@ each_within last s (x ∷ xs) (y ∷ ys) within each follows = (
       (λ t a b after. follows t a b (omega (arith, after))),
 )
 
--- after another element is put into the second list at index i, `Also` is true for each stream, if
--- it follows from `Holds` for each other stream, and for this one from `Holds` of the old element
+-- with another element at index i of the second list, `Also` is true for each stream, if it follows
+-- from `Holds` for each other stream, and for the stream at i from `Holds` of the old element
 pub each_set : {X Y : Type 0} {Holds Also : ℕ → X → Y → Type 0} (s i : ℕ) (xs : List X)
     (ys : List Y) (v : Y) → Each Holds s xs ys
     → ((t : ℕ) (x : X) (y : Y) → s ≤ t → t ≢ s + i → Holds t x y → Also t x y)

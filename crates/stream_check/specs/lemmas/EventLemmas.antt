@@ -41,7 +41,7 @@ module _ (c : StreamParams) (P : History → Type 0) (none : P []) where
         looked h asked rest found.1 is found.2
         (λ vacant. ends (found.3 ∙ ap (answer_of h) vacant)) holds
 
-    -- P holds for the events of a look-up with none after them
+    -- P holds for the events of a look-up with no events after them
     looks_last : (is_dropped : ℕ → Bool) (h : ℕ) (asked : History) (answer : Result Clause Fault)
         → IsHint h → LooksUp c is_dropped h asked answer → P asked
     looks_last is_dropped h asked answer is looks =

@@ -18,7 +18,7 @@ or_none false false = refl
 pub drops_none : (c : StreamParams) (is_dropped : ℕ → Bool) → DropsMore c is_dropped [] is_dropped
 drops_none c is_dropped id = sym (or_none (is_dropped id) (is_shared (ownership_of c id)))
 
--- There are no identities, or they are the first ones of a deletion with which the bytes begin.
+-- The list is empty, or its identities are the first of a deletion with which the bytes begin.
 abbrev pub AreDeletedFirst : List ℕ → List ℕ → Type 0
 AreDeletedFirst ids bytes =
     (ids ≡ [])

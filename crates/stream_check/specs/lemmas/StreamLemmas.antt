@@ -18,7 +18,7 @@ use Rattle.stream_check.specs.SequentialConsistency.{AreJudgedIn}
 use Rattle.stream_check.specs.Readings.{AreRead}
 use Rattle.stream_check.specs.Streams.{RunParamsValue, Stream, InputObservation, observation_of, observations, MatchesInput, JudgesStream, Block, blocks_of}
 
--- a list has only one element for a stream
+-- a list has only one element for each stream
 pub same_at : {X : Type 0} (xs : List X) (s : ℕ) (x y : X)
     → IsOfStream xs s x → IsOfStream xs s y → x ≡ y
 same_at xs s x y a b = let e : Some x ≡ Some y = sym a.1 ∙ b.1 in cc

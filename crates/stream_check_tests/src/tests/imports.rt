@@ -41,7 +41,7 @@ fn another_clause_differs(rt: HostRuntime) -> Result<(), Fail> {
     have_reports(&rt, rt.alloc(), ONE_STREAM, OTHER_CLAUSES)
 }
 
-/// The first test that fails decides: identity, literal, dropped, missing.
+/// The tests, in order: identity, literal, dropped, missing. The first that fails gives the fault.
 static BAD_IMPORTS: &[&str] = &[
     "5 i 2 0\n => 0 added, 0 deleted, bad line 1 (identity); fetches 0",
     "5 i 3 0\n => 0 added, 0 deleted, bad line 1 (identity); fetches 0",

@@ -91,7 +91,7 @@ struct LateMap<'a> {
     ghost streams: { 0 < map.layout.streams },
 }
 
-/// Publishes `-2` under identity 6, or retires it.
+/// Publishes `-2` under identity 6, or retires 6.
 fn call_at_six<M: ClauseMap>(desk: &mut M, retires: bool)
     requires { (M.caller_view desk.old).caller.formula ≡ four }
     ensures { (es : History) × M.moves desk.old desk.new es }
@@ -106,7 +106,7 @@ fn call_at_six<M: ClauseMap>(desk: &mut M, retires: bool)
     }
 }
 
-/// What `call_at_six` does, through stream 2's desk.
+/// Does what `call_at_six` does, through stream 2's desk.
 fn call_second(map: &mut PlainMap, retires: bool)
     requires formula { formula_of map.old ≡ four }
     requires stream { IsStream map.old.layout 2 }
@@ -115,7 +115,7 @@ fn call_second(map: &mut PlainMap, retires: bool)
     call_at_six(&mut map.desk(2), retires);
 }
 
-/// The calls of stream 2 that are due before this fetch of stream 1.
+/// Makes the calls of stream 2 that are due before this fetch of stream 1.
 fn call_late(map: &mut PlainMap, late: Late, fetch: u64)
     requires { formula_of map.old ≡ four }
     ensures { CallerStep (plain_caller_view map.old 1) (plain_caller_view map.new 1) [] }

@@ -111,7 +111,7 @@ fn a_refused_growth_ends_the_reading(rt: HostRuntime) -> Result<(), Fail> {
     Ok(())
 }
 
-/// This test fails if a growth is refused; so its failure shows that one was.
+/// This test fails if a growth is refused, and its failure shows that this happened.
 #[test]
 fn every_growth_has_memory(rt: HostRuntime) -> Result<(), Fail> {
     let said = said_of_lines(&rt, rt.alloc())?;

@@ -177,7 +177,7 @@ static DROPPED_BY_ONE: &[&str] = &[
 ];
 
 /// A clause that one stream drops stays live for the other, whether it is published before or after
-/// that: nothing is retired.
+/// the drop: nothing is retired.
 #[test]
 fn a_foreign_deletion_drops_for_one_stream(rt: HostRuntime) -> Result<(), Fail> {
     are_judged(&rt, rt.alloc(), DROPPED_BY_ONE)

@@ -45,7 +45,7 @@ pub record JudgesAtPass (checker : CheckerValue) (old new : PassValue) (items : 
   pub moves : PassMoves old.view new.view (joined blocks)
   pub judged : JudgesAtMark checker (pass_caller_view old.view).room items blocks dropped report
 
--- the stream has this result, or its mark was missed
+-- the stream has this result, or its mark wasn't received
 abbrev pub IsEndOf : {S : Type 0} → SourceView S → StreamJobsValue S → Option (StreamResultValue S)
     → Type 0
 IsEndOf view jobs (Some found) = Finishes view jobs found

@@ -551,7 +551,7 @@ fn jobs_again(
     }
 }
 
-/// These jobs and their map.
+/// The jobs of `jobs_again`, and their map.
 fn open_again(alloc: Global) -> Result<(ReadingJob<Pieces<'static>>, Checking<Open>), Fail>
     ensures { IfOk result (λ both. IsPair both.0.sender.producer both.1.job.receiver.consumer) }
 {

@@ -353,8 +353,8 @@ impl<C: Clock> Source for Steps<'_, C> {
     }
 }
 
-/// Sends bytes, each only after the one before has been received. Returns whether one was late, and
-/// what arrived.
+/// Sends bytes, each only after the one before has been received. Returns whether a byte was late,
+/// and what arrived.
 fn step_through<T: Threads + Wait + Clock + Sync>(
     rt: &T,
     alloc: Global,
@@ -380,7 +380,7 @@ fn step_through<T: Threads + Wait + Clock + Sync>(
 /// The size of a ring, how many bytes are sent, and before how many of them the sender pauses.
 static WOKEN: [(usize, u64, u64); 3] = [(65_536, 300, 300), (1, 300, 300), (65_536, 100_000, 0)];
 
-/// The next byte would hide a wake-up that was lost at an empty ring, so each byte comes only after
+/// Another byte would hide that a wake-up was lost at an empty ring, so each byte comes only after
 /// the one before has been received.
 #[test]
 fn a_receiver_that_sleeps_is_woken(rt: HostRuntime) -> Result<(), Fail> {
@@ -430,7 +430,7 @@ fn a_sender_that_sleeps_is_woken(rt: HostRuntime) -> Result<(), Fail> {
     Ok(())
 }
 
-/// Pushes this many bytes, and after a pause drops its end without a mark.
+/// Pushes this many bytes, and after a pause drops the sender without a mark.
 fn go<C: Clock>(clock: &C, mut sender: Sender, count: u64) {
     for place in 0..count {
         if sender.producer.push(u16::from(byte_at(place))).is_err() {

@@ -29,7 +29,8 @@ pub record HasRun (run_formula : Cnf) (run_layout : LayoutValue) (blocks : List 
   pub room : (s : ℕ) → IsStream run_layout s
       → free_at map s + spent s (events_in blocks) ≡ run_layout.room
 
--- the worker is stream s's, has reached its state through these blocks, and can be fed with the map
+-- the worker belongs to stream s, has reached its state through these blocks, and can be fed with
+-- the map
 pub record IsWorking {S : Type 0} (view : SourceView S) (run_params : RunParamsValue)
     (blocks : List Block)
     (map : Plain) (s : ℕ) (first : S) (worker : WorkerValue S) : Type 0 where
@@ -37,7 +38,7 @@ pub record IsWorking {S : Type 0} (view : SourceView S) (run_params : RunParamsV
   pub holds : WorkerInvariant view first worker (free_at map s) (blocks_of s blocks)
   pub ready : IsReadyAt worker.checker (plain_caller_view map s)
 
--- `IsWorking` for each of these workers, the first of which is that of stream s
+-- `IsWorking` for each of these workers, the first of which belongs to stream s
 abbrev pub AreWorking : {S : Type 0} → SourceView S → RunParamsValue → List Block → Plain
     → ℕ → List S
     → List (WorkerValue S) → Type 0

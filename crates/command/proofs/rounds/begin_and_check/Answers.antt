@@ -11,7 +11,7 @@ use Rattle.run_files.specs.lemmas.OpeningLemmas.{opened_count}
 use Rattle.command.proofs.rounds.begin_and_check.Given as given
 use Rattle.command.proofs.rounds.begin_and_check.Goals as goal
 
--- a fault before the first round's check is one of round 1
+-- a fault before the first round's check is a fault of round 1
 pub returns-in-Err-clause-cause : goal.returns-in-Err-clause-cause
 returns-in-Err-clause-cause g c words first good at = inl (refl, c.in-Err.ensures.cause words first good at)
 

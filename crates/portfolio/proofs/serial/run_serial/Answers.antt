@@ -77,7 +77,7 @@ returns-in_err-found-clause-no_threads g c = no_threads _ (is_memory _ c.from_re
 pub returns-clause-layout : goal.returns-clause-layout
 returns-clause-layout g c = no_layout g (goal.at.returns-clause-layout g c).In_ok-layout _ tt
 
--- the law's premise is the layout of the formula and the readers
+-- the law's premise holds: the layout is made for the formula
 pub returns-clause-ordered : goal.returns-clause-ordered
 returns-clause-ordered g c =
     let f = c.args.formula.now in

@@ -91,7 +91,7 @@ returns-in-Ok-clause-history g c =
     let out = c.outcome_of.ensures in
     run_history (readers_view g.R.Source) begun c.in-Ok.found _ c.in-Ok.ensures.found out.synced out.one
 
--- the premise of the laws is the layout of the formula and the readers
+-- the premise of the laws holds: the layout is made for the formula
 pub returns-in-Ok-clause-reports : goal.returns-in-Ok-clause-reports
 returns-in-Ok-clause-reports g c =
     let begun = begun g (goal.at.returns-in-Ok-clause-reports g c).In_ok-store in

@@ -14,7 +14,7 @@ use Rattle.portfolio.proofs.threads.store_and_jobs.Given as given
 use Rattle.portfolio.proofs.threads.store_and_jobs.Goals as goal
 use Rattle.portfolio.proofs.threads.store_and_jobs.Goals.{In_ok-layout}
 
--- the layout is that of the formula, the options and the readers
+-- the layout is made from the formula, the options and the readers
 layout_is : (g : given.Over) (c : In_ok-layout g)
     → c.in_ok-layout.layout ≡ layout_of c.args.options c.args.formula.now (length c.args.readers.items)
 layout_is g c =

@@ -34,7 +34,7 @@ returns-in-Err-clause-cause g c =
     } in
     (broken, subst (λ (n : ℕ). n ≤ 64) c.loop-buffer.bytes.ok.0 invariant.count)
 
--- more was read than a text of sizes has
+-- more bytes were read than a text of sizes can have
 pub returns-clause-cause : goal.returns-clause-cause
 returns-clause-cause g c =
     let now = c.loop-buffer in

@@ -3,7 +3,7 @@ use denote.Param.{layout, param}
 use denote.Param.Send.{arg_send, arg_sync, param_send, param_sync}
 use Rattle.stream_threads.proofs.joining.check_all.Goals as goal
 
--- the closure requires what the function does
+-- the closure requires what the function requires
 pub scoped-requires : goal.scoped-requires
 scoped-requires g c =
     let send_R = arg_send (layout g.row.R) no (param 1 g.row.R) c.type_bounds.send-R in

@@ -23,7 +23,7 @@ published seat now p id c r new same pass whole calls =
     subst (λ (v : View). Calls v new (events.publish v.caller.stream id c r)) view
     (subst (λ (d : Clause). Calls now.view new (events.publish now.view.caller.stream id d r)) whole calls)
 
--- if only the draft has changed so far, then after one more write, too, only the draft has changed
+-- if only the draft has changed so far, then still only the draft has changed after one more write
 drafted : (seat before now : SeatValue) (d : Clause) → before ≡ record seat { draft = before.draft } → now ≡ record before { draft = d }
     → now ≡ record seat { draft = now.draft }
 drafted seat before now d same is =

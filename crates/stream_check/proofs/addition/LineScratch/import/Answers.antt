@@ -37,7 +37,7 @@ returns-then-not-make_literals-clause-judged g c =
       bad_literal s st c.args.id c.args.lits.now (search rules) no,
     )
 
--- the lookup has a fault
+-- the look-up has a fault
 pub returns-in_err-clip-clause-judged : goal.returns-in_err-clip-clause-judged
 returns-in_err-clip-clause-judged g c =
     let s = c.args.state.now.params in
