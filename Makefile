@@ -28,7 +28,7 @@ SHARED_WITH_SOLVER := $(addprefix tools/exact/,errors.c formula.c lists.c litera
 ALONE := $(filter-out $(wildcard tools/solve/mpi*.cpp),$(wildcard tools/solve/*.cpp))
 # Tests of programs build this first; 'make examples BUILT= PROGRAM=path' tests another program.
 BUILT ?= build
-# Debian's pytest runs the tests of programs: at a time, two more files than there are cores, since
+# Debian's pytest runs the tests of programs, two more files at a time than there are cores, since
 # most tests wait now and then. With xdist's -n, runs of many files didn't end.
 PYTEST ?= pytest-3
 AT_ONCE := $(shell expr $$(nproc) + 2)

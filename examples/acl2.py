@@ -62,7 +62,8 @@ def sorted_steps(path: str) -> Iterator[List[str]]:
 
 
 def compressed_number(word: str) -> bytes:
-    """Twice the number, plus one if it is negative, in bytes of seven bits, the lowest first."""
+    """Twice the absolute value, plus one if the number is negative, in bytes of seven bits, the
+    lowest first."""
     rest, code = 2 * abs(int(word)) + (word[0] == "-"), bytearray()
     while rest > 127:
         code.append(rest & 127 | 128)

@@ -218,7 +218,7 @@ def uses(thing: Thing) -> Set[Thing]:
 
 
 def closure(roots: Iterable[Thing]) -> Dict[Thing, Thing]:
-    """These things and all that they reach, each with one that names it, or itself for a root."""
+    """These things and all that they reach, each with one thing that names it (a root: itself)."""
     found = {thing: thing for thing in roots}
     todo = sorted(found)
     while todo:

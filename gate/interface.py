@@ -121,8 +121,8 @@ def wrong_faults() -> Iterator[str]:
 
 
 def is_cause(span: str, text: str) -> bool:
-    """Whether the part in backticks is the text, the end of the text after a colon, or, if it ends
-    with two dots, its beginning."""
+    """Whether the part in backticks is the text, the end of the text after a colon, or, if the part
+    ends with two dots, the beginning of the text."""
     is_start = span.endswith(" ..") and text.startswith(span[:-2])
     return is_start or f": {text}".endswith(f": {span}")
 

@@ -280,7 +280,7 @@ def misfits() -> Iterator[str]:
 
 def wrong_arrows() -> Iterator[str]:
     """The picture in ARCHITECTURE has an arrow from each crate, except those for tests, to each
-    crate that it uses directly and not through another."""
+    crate that it uses directly and not through another crate."""
     below = {crate: all_below(crate) - {crate} for crate in antt.crates()
              if not crate.endswith(("_tests", "_support"))}
     wanted = {(crate, name) for crate, names in below.items() for name in names

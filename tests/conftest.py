@@ -23,7 +23,7 @@ def pytest_addoption(parser: pytest.Parser) -> None:
 
 
 def pytest_configure(config: pytest.Config) -> None:
-    """Puts the options into harness, where modules with rows find them when they are imported."""
+    """Puts the options into harness, where each module with rows finds them on import."""
     harness.PROGRAM = os.path.abspath(config.getoption("program"))
     for name in ("rt", "flags", "count", "first", "seed", "minutes"):
         setattr(harness, name.upper(), config.getoption(name))

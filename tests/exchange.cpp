@@ -1,5 +1,5 @@
-// Tests, without MPI or engines, which clauses lrup-engines-mpi sends, and which ones it places in
-// another process. A failure is shown, and the status is then 1.
+// Tests, without MPI or engines, which clauses lrup-engines-mpi sends, and which of them it places
+// in the receiving process. A failure is shown, and the status is then 1.
 #include <cstdio>
 #include <memory>
 
@@ -53,7 +53,8 @@ struct Process {
     }
 };
 
-// The message's round, and for each length the number of clauses, such as `2: 7 of 2`.
+// The message's round, and for each length the number of clauses: `2: 7 of 3` is a message of
+// round 2, with seven clauses of three literals.
 std::string text_of(Message message) {
     uint64_t round = 0;
     struct { uint32_t engine, identity, length; } sent;
@@ -78,8 +79,8 @@ Message collected(Process &process, const std::string &wanted) {
     return message;
 }
 
-// Places the clauses of a message, and compares three totals: clauses that were placed, that were
-// dropped, and that others may read.
+// Places the clauses of a message, and compares three totals: the clauses placed, the clauses
+// dropped, and the clauses that other engines may read.
 void place(Process &process, Message message, const std::string &wanted) {
     process.exchange.place(message);
     const Traffic &all = process.exchange.traffic;
@@ -114,7 +115,7 @@ int main() {
     STORE(one.shared->saved_round, 1);
     one.give(1, 2, 6);
     one.clear();
-    collected(one, "1:");  // their identities may belong to the next round
+    collected(one, "1:");  // the clauses' identities may belong to the next round
     one.give(1, 2, 6);
     one.clear();
     STORE(one.shared->round, 2);

@@ -6,7 +6,7 @@ from typing import List, Sequence, Tuple, Union
 from harness import FILTER, Ran, report, run, want, written
 
 Text = Union[str, bytes]
-FIRST = "5 2 0 1 2 0\n"      # the first line of the four clauses' proof
+FIRST = "5 2 0 1 2 0\n"      # the first line of a proof over the four clauses
 ONE_OF_TWO = ["--stream", "1", "--streams", "2"]
 
 

@@ -9,9 +9,9 @@ Bits = List[int]
 
 
 def parity(numbers: random.Random, vertices: int, is_odd: bool) -> str:
-    """A variable for each edge of a graph whose vertices have three edges each. The sum of a
-    vertex's edges has to be even, but if `is_odd`, that of the first vertex's edges has to be odd.
-    No assignment can give such sums, since each edge counts twice."""
+    """A variable for each edge of a graph whose vertices have three edges each. The sum of each
+    vertex's edges has to be even. If `is_odd`, the first vertex's sum has to be odd instead; no
+    assignment achieves this, since each edge counts twice."""
     ends = [vertex for vertex in range(vertices) for _ in range(3)]
     pairs = list(zip(ends[::2], ends[1::2]))
     while any(one == other for one, other in pairs):
@@ -25,7 +25,7 @@ def parity(numbers: random.Random, vertices: int, is_odd: bool) -> str:
 
 
 def table(holds: Callable[..., bool], variables: Sequence[int]) -> List[List[int]]:
-    """A clause for each row that is false in the function's truth table."""
+    """A clause for each row of the truth table in which the function is false."""
     rows = [[number >> place & 1 for place in range(len(variables))]
             for number in range(1 << len(variables))]
     return [[-variable if bit else variable for variable, bit in zip(variables, row)]

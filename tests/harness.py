@@ -278,9 +278,9 @@ SANITIZING = {"ASAN_OPTIONS": "exitcode=99", "UBSAN_OPTIONS": "exitcode=99:print
 
 @functools.lru_cache(maxsize=None)
 def sanitizer() -> List[str]:
-    """The command of a compiler that has the sanitizers, or an empty list: clang if it is
-    installed, since it finds more, such as an offset to a null pointer; otherwise $CC or cc, but in
-    CI no other one is tried."""
+    """The command of a compiler that has the sanitizers, or an empty list. Clang comes first, since
+    it finds more, such as an offset applied to a null pointer. Then $CC or cc is tried, but not in
+    CI."""
     with tempfile.TemporaryDirectory() as work:
         source, one = (written("int main(void) { return 0; }\n", Path(work), "one.c"),
                        Path(work) / "one")
@@ -314,7 +314,7 @@ def sanitized_filter() -> Path:
 
 
 def sources_of(tool: str) -> List[Path]:
-    """The tool's sources, and those of the filter that it contains."""
+    """The tool's own sources, and the filter's, since the tool contains the filter."""
     return [*(ROOT / "tools" / tool).glob("*.c"),
             *(path for path in EXACT.glob("*.c") if path.name not in ("main.c", "chain.c"))]
 

@@ -16,7 +16,7 @@ from solving import PROGRAM, SOLVE, Answer, end_all, marked, none_left
 # Satisfied by 1 2 3 and by 1 2 -3.
 SATISFIABLE = "p cnf 3 4\nc a comment\n1 2 0\n-1\n2 0 1 -3 0\nc 3 0\n3 -2 1 0\n"
 LONG = 30       # seconds after which a run should have ended
-PROOF = "5 2 0 1 2 0\n6 0 5 3 4 0\n"                         # of FOUR
+PROOF = "5 2 0 1 2 0\n6 0 5 3 4 0\n"                         # refutes FOUR
 
 # Finds the id of an lrupd that is the front's child, and starts an orphan that gets the same id and
 # ends with a status. If the program may choose ids, that takes a moment; otherwise it forks for
@@ -120,9 +120,9 @@ def program(body: str, work: Path) -> Path:
 
 def run_with(body: str, words: Sequence[object], text: str, work: Path, lrupd: object = PROGRAM,
              front: object = SOLVE, may_leave: bool = False, **how: Any) -> Answer:
-    """A run. It must leave nothing in its own temporary folder, and no process, or with `may_leave`
-    only processes that are ended here. Each output line has to be an answer, a value or a
-    comment."""
+    """Runs the front. The run must leave its own temporary folder empty, and no process behind;
+    with `may_leave` it may leave processes, which are ended here. Each output line has to be an
+    answer, a value or a comment."""
     formula, files, mark = written(text, work), work / "temporary", marked(work)
     files.mkdir()
     word = "-" if "given" in how else formula

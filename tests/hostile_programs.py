@@ -1,8 +1,8 @@
 """Harmful programs in place of lrup-engines, for tests/test_lrup_solve_hostile.py.
 
-Each program is a comment with its name, and a body. A name may end with `slow`: reading the formula
-takes a moment; with `copied`: lrupd is a copy; or with `leaves`: the supervisor is killed, so
-processes may be left."""
+Each program is a comment with its name, and a body. A name may end with a word: `slow` if reading
+the formula takes a moment, `copied` if lrupd is a copy, and `leaves` if the supervisor is killed,
+so that processes may be left."""
 import re
 from typing import List, Tuple
 

@@ -1,5 +1,5 @@
-"""What tests of records share: the rounds in a record, what a complete record is, and changes to
-records."""
+"""What tests of records share: the rounds in a record, the check of a complete record, and changes
+to records."""
 import hashlib
 import os
 import random
@@ -151,7 +151,8 @@ CHANGES: Dict[str, Change] = {
 
 
 def want_no_other(answer: Answer, status: int, formula: Path, kept: Path, names: str) -> None:
-    """Checks that the answer is right, or missing while a message names one of these files."""
+    """Checks that the answer is right, or that there is none, but a message that names one of these
+    files."""
     if answer.status == status:
         answer.said = ""
         return want_answer(answer, status, formula)

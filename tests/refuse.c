@@ -1,6 +1,6 @@
 /* Loaded before a program's libraries (LD_PRELOAD), this refuses one of the program's calls, and
-   then creates the file MARK. REFUSE is KIND:N or KIND:N:HOW: the N-th call of that kind, counted
-   from 1.
+   then creates the file MARK. REFUSE is KIND:N or KIND:N:HOW, and the N-th call of that kind is
+   refused; the first call has number 1.
      allocate:N     malloc, calloc, realloc and the like return NULL
      thread:N       pthread_create returns EAGAIN. Each started thread begins LATE milliseconds
                     later, so a program that doesn't wait for it continues before that. At the next
@@ -136,7 +136,7 @@ static void tell_threads(void) {
     close(file);
 }
 
-/* How many bytes the call may transfer, or -1 with errno. */
+/* How many bytes the call may transfer, or -1, with errno set. */
 static ssize_t allowed(size_t size) {
     static const struct { const char *name; int error; } errors[] = {
         {"EIO", EIO}, {"EINTR", EINTR}, {"ENOSPC", ENOSPC}, {"EPIPE", EPIPE}, {"EACCES", EACCES},

@@ -1,5 +1,5 @@
-// Refuses one call of lrup-solve's front or supervisor. The linker calls these functions in
-// place of the library's: --wrap=NAME for each NAME of the table. In the environment, REFUSE is
+// Refuses one call of lrup-solve's front or supervisor. The linker puts these functions in place of
+// the library's, with --wrap=NAME for each NAME of the table. In the environment, REFUSE is
 // NAME:K:HOW. Of all calls of NAME in the front and its children, the K-th one fails, and the file
 // MARK is created. HOW is the number of an error, or `short`: one byte is read or written.
 // A tool for tests, not part of the program.
@@ -39,7 +39,7 @@ TABLE(DECLARE)
 
 static atomic_long *calls;      // the number of calls so far; shared with children
 static const char *refused, *mark;
-static long number, error;      // error 0: short
+static long number, error;      // error 0 means `short`
 
 __attribute__((constructor)) static void begin(void) {
     char *words = getenv("REFUSE"), *rest = words ? strdup(words) : NULL;

@@ -1,5 +1,5 @@
-"""The permitted answers of the program when a system call is refused, and a machine that refuses
-one."""
+"""The permitted answers of the program when a system call is refused, and `Machine`, which runs the
+program with one call refused."""
 import itertools
 import os
 import re
@@ -42,7 +42,7 @@ HELD = 3  # opens of /dev/null, for closed standard streams
 # minute.
 SECONDS = 20
 HANGS = 300  # seconds after which a run counts as hanging
-LATE = 50  # milliseconds before a thread begins, in runs where another one isn't started
+LATE = 50  # milliseconds before a thread begins, in runs where another thread isn't started
 
 
 class Input:
@@ -182,8 +182,8 @@ class Machine:
 
 
 def mixtures(lines: Sequence[str], how: str) -> Iterator[str]:
-    """The lines of threads in each order that is possible if one line is written in part at first,
-    and others come before its rest."""
+    """The lines of threads in each order that is possible if one line is written in two parts, with
+    some of the other lines between them."""
     for cut, line in enumerate(lines):
         length = 1 if how == "short" else len(line) // 2
         for last in range(cut + 1, len(lines)):
@@ -287,7 +287,7 @@ def is_refused_allocation(answer: Answer, ample: Answer, given: Input) -> bool:
 
 def is_failed_read(answer: Answer, given: Input, machine: Machine) -> bool:
     """Whether the formula or the assumptions weren't read; or whether one stream failed, and the
-    other streams' results are as if the rest of it were missing."""
+    other streams' results are as if the rest of that stream were missing."""
     if answer == NO_FORMULA or answer == NO_ASSUMPTIONS and given.assumes:
         return True
     failed = re.findall(r"^c stream (\d+): .*, read failed at line (\d+)$", answer.out, re.M)
@@ -297,7 +297,7 @@ def is_failed_read(answer: Answer, given: Input, machine: Machine) -> bool:
 
 def is_failed_write(answer: Answer, ample: Answer) -> bool:
     """Whether a write to the checkpoint, standard output or standard error failed. On standard
-    error that doesn't change the status."""
+    error, that doesn't change the status."""
     return (is_cut(answer, ample)
             or is_unsaved(answer, ample, NOT_WRITTEN) and answer.saved != ample.saved
             or (answer == ample._replace(err=answer.err) and ample.err.startswith(answer.err)))
@@ -351,15 +351,15 @@ def is_right(kind: str, how: str, number: int, answer: Answer, ample: Answer, gi
 
 
 def failed_opening(number: int, stream: int, how: str, given: InRounds) -> Answer:
-    """If stream 1 of a later round doesn't exist, the run ends; every other cause, and every other
-    stream, is a fault."""
+    """If stream 1 of a later round doesn't exist, the run ends; with any other cause, or for any
+    other stream, a failed opening is a fault."""
     if how == "ENOENT" and stream == 1 and number > 1:
         return given.ended(number - 1)
     return given.stopped(number, f"cannot open stream {stream}", 5)
 
 
 def in_turn(kind: str, how: str, given: InRounds) -> List[Answer]:
-    """The answers for each refused call of this kind, in order."""
+    """The answer for each refused call of this kind, in order."""
     numbers, streams = range(1, given.count + 1), range(1, given.streams + 1)
     if kind == "thread":
         return [answer for number in range(1, given.reached + 1)
@@ -383,9 +383,9 @@ def in_turn(kind: str, how: str, given: InRounds) -> List[Answer]:
 
 
 def threads_of_round(number: int, given: InRounds) -> Iterator[Answer]:
-    """For each thread of a round, the answers if it isn't started. With --watch, the first threads
-    are those that watch openings, of the formula or of sizes, and of streams: without them the run
-    ends as usual. Then come the threads of the streams."""
+    """For each thread of a round, the answer if it isn't started. With --watch, the first threads
+    watch the opening of the formula or of the sizes, and of each stream; without such a thread the
+    run ends as usual. Then come the streams' own threads."""
     streams = range(1, given.streams + 1) if number <= given.count else []
     if "--watch" in given.words:
         yield from [given.ended(given.count)] * (1 + max(1, len(streams)))
@@ -492,7 +492,7 @@ def complaints_in_rounds(kind: str, how: str, ample: Answer, answers: List[Answe
 
 def are_in_order(causes: List[str], ample: Answer, given: Input) -> bool:
     """Whether standard error names the right files for the first reads: the formula, then the
-    assumptions, then none."""
+    assumptions, then no file."""
     wanted = [NO_FORMULA.err] + [NO_ASSUMPTIONS.err] * given.assumes + [ample.err]
     found = [cause for cause, _ in itertools.groupby(causes)]
     reads_assumptions = given.assumes and ample != NO_ASSUMPTIONS

@@ -68,8 +68,8 @@ def rewritten(seed: int, paths: Sequence[Path]) -> Iterator[None]:
 
 def chained(streams: int, lines: int, work: Path) -> List[Path]:
     """Streams over the four clauses. In turn they get the lines of one chain, in which each line
-    cites the line before it, and the last one derives the empty clause. A stream uses every second
-    of its identities."""
+    cites the line before it, and the last one derives the empty clause. A stream uses only every
+    second identity of its own."""
     identities = [5 + 2 * (place - place % streams) + place % streams for place in range(lines)]
     texts = ["5 1 2 0 1 0\n"]
     texts += [f"{now} 1 2 0 {before} 0\n" for before, now in zip(identities, identities[1:-2])]
@@ -97,8 +97,8 @@ def withstands(command: Callable[[int, Path], Words], statuses: Sequence[int], r
 
 
 def cut_while_read(command: Words, name: str, work: Path) -> None:
-    """Truncates a stream while the program reads it, which must leave no file. A run that ends
-    before that is tried again."""
+    """Truncates a stream while the program reads it; the program must leave no file. A run that
+    ends before that is tried again."""
     formula, found = written(FOUR, work), []
     for number in range(20):
         stream, = chained(1, 10 * LINES, work)

@@ -1,5 +1,5 @@
-"""Two proofs in three rounds over the four clauses, one of one stream and one of two, and lrupd's
-reports and checkpoints, all written by hand. Also rows of runs with --rounds."""
+"""Two proofs over the four clauses, in three rounds, with one stream and with two; lrupd's reports
+and checkpoints for these proofs, all written by hand; and rows of runs with --rounds."""
 from typing import Dict, Iterator, List, Mapping, NamedTuple, Optional, Sequence, Tuple
 
 from harness import FOUR, Pieces, Wanted, report
@@ -16,7 +16,8 @@ class Proof(NamedTuple):
     saved: List[str]
 
 
-# From the four clauses, round 1 derives 2 and drops clause 1, and round 2 derives 1 and drops -1 2.
+# From the four clauses, round 1 derives the unit clause 2 and drops the clause 1 2; then round 2
+# derives the unit clause 1 and drops the clause -1 2.
 SAVED = "p cnf 2 4\nc id 2\n-1 2 0\nc id 3\n1 -2 0\nc id 4\n-1 -2 0\nc id 5\n2 0\n"
 ONE = Proof([["5 2 0 1 2 0\n5 d 1 0\n"], ["5 1 0 4 2 0\n5 d 1 0\n"], ["5 0 3 4 2 0\n"]],
             [["1 added, 1 deleted, ended"], ["1 added, 1 deleted, ended"],
@@ -36,7 +37,7 @@ def stream_name(number: int, stream: int = 1) -> str:
 
 
 def saved_name(number: int) -> str:
-    """A round's formula, which the round before saves."""
+    """The file of a round's formula, which the round before saves."""
     return f"d/round-{number}.cnf"
 
 
@@ -66,7 +67,7 @@ def last(number: int, said: Sequence[str], status: int) -> str:
 WAYS = ["", "--serial"]
 TRIES = "--tries 1000000"
 ADDED, NOTHING = "1 added, 0 deleted, ended", "0 added, 0 deleted, ended"
-DERIVING, REFUTING = "5 2 0 1 2 0\n", "5 2 0 1 2 0\n6 0 5 3 4 0\n"     # of the four clauses
+DERIVING, REFUTING = "5 2 0 1 2 0\n", "5 2 0 1 2 0\n6 0 5 3 4 0\n"     # over the four clauses
 BAD, BAD_SAID = "5 1 0 0\n", "0 added, 0 deleted, bad line 1 (no conflict)"
 SAVED_ONE = FOUR.replace("2 4", "2 5") + "2 0\n"
 OTHER = "p cnf 2 2\n2 0\n-2 0\n"    # another formula

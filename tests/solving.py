@@ -102,7 +102,7 @@ def random_formula(seed: int) -> str:
 
 def check_again(kept: Path, env_more: Optional[Mapping[str, str]] = None) -> None:
     """Runs the record's command, which checks the streams again, from another folder. The last
-    report has to be the same, and no file may change."""
+    report has to be the record's, and no file may change."""
     before = {path: path.lstat().st_mtime_ns for path in [kept, *kept.iterdir()]}
     done, report = (run(["sh", kept / "command"], cwd="/", env=in_environment(more=env_more)),
                     (kept / "report").read_text())
@@ -142,8 +142,8 @@ def of_process(pid: int, name: str) -> str:
 
 
 def children_of(pid: int) -> Dict[str, int]:
-    """The names and ids of a process's descendants. Of two lrupds it takes the one that reads
-    streams."""
+    """The names and ids of a process's descendants. Of two lrupds, only the one that reads streams
+    is included."""
     found = {}
     for child in map(int, of_process(pid, f"task/{pid}/children").split()):
         title = of_process(child, "comm").strip()
@@ -165,7 +165,7 @@ def processes_of_run(pid: int) -> Dict[str, int]:
 
 
 def end_group(process: "subprocess.Popen[Any]") -> None:
-    """Ends every process in the session."""
+    """Ends the process and its whole group."""
     with contextlib.suppress(ProcessLookupError):
         os.killpg(process.pid, signal.SIGKILL)
     process.wait()
@@ -178,8 +178,8 @@ def waits_of(pid: int) -> int:
 
 
 def sleep(pids: Sequence[int]) -> None:
-    """Waits until none of the processes has woken up for a second, by the system's count of their
-    waits."""
+    """Waits until none of the processes has woken up for a second, according to the system's count
+    of their waits."""
     def all_slept() -> bool:
         before = [waits_of(pid) for pid in pids]
         time.sleep(1)

@@ -109,9 +109,9 @@ def again(work: Path) -> None:
 
 
 def installed(work: Path) -> None:
-    """Installs built programs without the toolchain: `make -n install` installs nothing, and `make
-    install` each program with a manual page and a completion. Uninstalling leaves nothing. A
-    missing program is reported."""
+    """Installs built programs without the toolchain. `make -n install` changes nothing; `make
+    install` installs each program, with a manual page and a completion. Uninstalling leaves
+    nothing. A missing program is reported."""
     program = written("#!/bin/sh\necho 'usage: lrupd [--lines N] [--help]'\n", work, "lrupd")
     program.chmod(0o755)
     words = ["RT=none", f"DESTDIR={work}/a place", "PREFIX=/usr"]

@@ -1,10 +1,10 @@
-"""Runs examples/chain.py, which cuts streams into rounds, and lrup-chain on these rounds; compares
-these with a single run.
+"""Runs examples/chain.py, which cuts streams into rounds, and lrup-chain on these rounds, and
+compares the results with a single run.
 
 Recorded streams, and streams of the example solver with imports and deletions, are cut into one to
-nine rounds. The last round has to end with status 0, and the rounds' additions have to be those of
-a single run. With the sizes of the largest round, a single run can't hold all additions. If an
-addition loses its hints, its round has to be the last, with a bad line."""
+nine rounds. The last round has to end with status 0, and the rounds together have to have as many
+additions as a single run. With the sizes of the largest round, a single run can't hold all
+additions. If an addition loses its hints, its round has to be the last, with a bad line."""
 import re
 import sys
 from pathlib import Path
@@ -75,7 +75,7 @@ def solved(program: str, solver: str, words: str, streams: int, share: int, coun
 
 def too_much_for_one_run(program: str, place: int, fault: str, count: int, work: Path) -> None:
     """In rounds, the streams refute the formula; a single run with the rounds' largest size stops.
-    That run is --serial, so that no stream gives up before another stream is full."""
+    That run uses --serial, so that no stream gives up before another stream is full."""
     formula, streams = example("bmc.cnf"), list(map(example, FOUR_SOLVERS))
     want_refuted(chain(program, count, formula, streams, TRIES, work), count)
     sizes = [path.read_text().split()[1 + place] for path in (work / "rounds").glob("*.sizes")]

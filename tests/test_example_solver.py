@@ -1,11 +1,11 @@
 """Runs the example solver on small formulas with one to eight streams, and the program on its
 streams.
 
-Each report has to say that each stream ended, with as many additions and deletions as the solver
-printed; if the formula is unsatisfiable, the status has to be 0. If nothing is shared, the streams
-also go to files, for which --serial has to give the same report. Imports change none of this. All
-imports of a run also form a stream of their own, once as they are and once followed by a garbled
-import. Then solvers are killed midway: each stream ends, or is truncated."""
+Each report has to say that each stream ended, with the numbers of additions and deletions that the
+solver printed; if the formula is unsatisfiable, the status has to be 0. If nothing is shared, the
+streams also go to files, for which --serial has to give the same report. Imports change none of
+this. All imports of a run also form a stream of their own, once as they are and once followed by a
+garbled import. Then solvers are killed midway: each stream ends, or is truncated."""
 import re
 import select
 import subprocess
@@ -102,7 +102,7 @@ def recorded(program: str, solver: List[str], words: str, answer: int, streams: 
 
 
 def garbled(line: str) -> str:
-    """An import without its first literal; if that is the only one, with its complement."""
+    """An import without its first literal, or with the complement of its only literal."""
     identity, kind, literal, *rest = line.split()
     if rest == ["0"]:
         rest = [str(-int(literal)), "0"]
@@ -111,9 +111,9 @@ def garbled(line: str) -> str:
 
 def imported(program: str, solver: List[str], words: str, answer: int, streams: int,
              work: Path) -> None:
-    """Checks the streams together with another one that has all their imports, then with a garbled
-    import after these. If a thread had the answer before the others began, there are no imports,
-    and another seed is taken."""
+    """Checks the streams together with another stream, which has all their imports; then again with
+    a garbled import at that stream's end. If a thread had the answer before the others began, there
+    are no imports, and another seed is tried."""
     for seed in [*solver[-1:], *range(101, 120)]:
         command = [*solver[:-1], str(seed), "--streams", str(streams + 1)]
         path, files, said, (ended, status) = record(command, words, answer, streams, work)

@@ -2,13 +2,13 @@
 
 There are 2,000 (or --count) faulty runs of one to five solvers: hints are left out, doubled and
 reordered, literals get wrong signs, deletions and imports are inserted, or bytes are garbled. Then
-come 1,000 (or --count) mutants of test_filter_mutants.py, most of which aren't proofs in this form.
-For each stream, fault and line have to be those that lrupd --serial reports, and those that lrupd
-reports with threads, too, if no stream deletes what others cite. Each chain that is offered has to
-be right: lrupd accepts the line with this chain as its hints. If only hints are wrong, a chain has
-to be offered. lrup-explain also has to end while streams are rewritten and truncated. It is built
-for tests, with -fsanitize=address,undefined if the compiler can; three of four runs on faulty
-streams use the normal build."""
+come 1,000 (or --count) mutants of test_filter_mutants.py, most of which don't have a stream's form.
+For each stream, the fault and its line have to be those that lrupd --serial reports; if no stream
+deletes what others cite, lrupd has to report the same faults with threads, too. Each chain that is
+offered has to be right: lrupd accepts the line with this chain as its hints. If only hints are
+wrong, a chain has to be offered. lrup-explain also has to end while streams are rewritten and
+truncated. It is built for tests, with -fsanitize=address,undefined if the compiler supports it;
+three of four runs on faulty streams use the normal build."""
 import functools
 import os
 import random
@@ -609,8 +609,8 @@ FORMS = [
 
 
 def fault(streams: Sequence[str], options: str, said: str, work: Path) -> None:
-    """Explains a fault; lrupd reports the same, with threads and with --serial, and waits only a
-    moment for a clause that never comes."""
+    """Explains a fault; lrupd reports the same fault with threads and with --serial, and waits only
+    a moment for a clause that never comes."""
     names = [written(text, work, f"f{number}").name for number, text in enumerate(streams, 1)]
     words = [*options.split(), written(FOUR, work), *names]
     done = explain(words, work)
@@ -628,8 +628,8 @@ def good(words: Sequence[object], work: Path) -> None:
 
 
 def in_rounds(number: int, work: Path) -> None:
-    """Two solvers in three rounds, with a fault in the last round, or in an earlier round that no
-    round follows."""
+    """Two solvers in three rounds, with a fault in one of them; the rounds after that one are
+    removed."""
     numbers = random.Random(f"{number} rounds")
     formula, streams = (example("pigeonhole.cnf"),
                         [example("pigeonhole-two.1"), example("pigeonhole-two.2")])
@@ -673,7 +673,7 @@ def carried(work: Path) -> None:
     want(explain([written(FOUR, work), "d"], work), Ran(SAID_OF_CARRIED, "", BAD), "the messages")
 
 
-# The example solver leaves out one hint: of the unit clauses of level 0, the last one.
+# The example solver leaves out a hint: the last of a chain's unit clauses of level 0.
 
 RIGHT_LINE = "for (size_t k = 0; k < level_zero.length; k++) PUSH(hints, level_zero.items[k]);"
 LEFT_OUT = (r"^       (-?\d+ would follow here from|"

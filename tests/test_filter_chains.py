@@ -1,13 +1,13 @@
 """Runs the filter, and lrup-solve, on formulas with long chains, and lrupd on the output.
 
 There are chains of 10 to 1,000,000 steps, of units and of one failed literal, and the other
-formulas of bench/solve/easy.py. lrupd has to accept each stream to its end, with 'unsatisfiable',
-and the numbers of its bytes and lines have to be linear in those of the formula. Proofs are written
-by hand, or by CaDiCaL if it is on the PATH. Some have chains of more hints than a line may have,
-clauses with that many literals, root units that chains need in the worst order, or streams without
-identities to spare. A build that allows six hints in a line, with -fsanitize=address,undefined if
-the compiler can, splits nearly all chains of recorded proofs and of random formulas, also in
-rounds."""
+formulas of bench/solve/easy.py. lrupd has to accept each stream to its end, with the verdict
+'unsatisfiable', and a stream's bytes and lines have to be linear in the formula's. Proofs are
+written by hand, or by CaDiCaL if it is on the PATH. Some have chains of more hints than a line may
+have, clauses with that many literals, root units that chains need in the worst order, or streams
+without identities to spare. A build that allows only six hints in a line, made with
+-fsanitize=address,undefined if the compiler supports it, splits nearly all chains of recorded
+proofs and of random formulas, in one round and in several."""
 import functools
 import os
 import random
@@ -27,8 +27,8 @@ from solving import PROGRAM, built, solve, want_answer
 sys.path.insert(0, str(ROOT / "bench" / "solve"))
 import easy
 
-MOST = 65536            # the most hints of a line
-FEW = 6                 # the same in the build that splits nearly all chains
+MOST = 65536            # the most hints in a line
+FEW = 6                 # the most in the build that splits nearly all chains
 STEPS = (10, 65535, 65536, 65537, 1000000)
 RANDOM = 300            # formulas, half of which have a proof
 Text = Union[str, bytes]

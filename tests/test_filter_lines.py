@@ -1,5 +1,5 @@
-"""Runs the filter on proofs of a few lines. The program has to accept what the filter writes, and
-the message on a proof that it refuses has to name the line or byte."""
+"""Runs the filter on proofs of a few lines. The program has to accept what the filter writes; if
+the filter refuses a proof, its message has to name the line or byte."""
 import random
 from pathlib import Path
 from typing import List
@@ -100,8 +100,8 @@ def compressed(name: str, words: List[str], work: Path) -> None:
 
 
 def bad_other(line: str, work: Path) -> None:
-    """The file of --other isn't LRAT text with increasing identities over the formula's
-    literals."""
+    """The file of --other isn't LRAT text over the formula's literals, with increasing
+    identities."""
     other = written(f"{line}\n8 2 0 1 2 0\n", work, "other")
     stops(FOUR, FIRST + "7 1 -2 0 8 0\n", f"line 2: {other}: ", FIRST,
           ONE_OF_TWO + ["--other", f"2={other}"], work)

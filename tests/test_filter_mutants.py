@@ -25,7 +25,7 @@ from proof_forms import FORMS, Clause, Step, frat, read_formula, read_steps, var
 
 KEPT = FILTER.parent / "mutants"
 SECONDS = 120
-A_ROW = 100     # mutants in a row
+A_ROW = 100     # mutants per row
 
 # The argument of --format, the formula and the steps.
 Base = Tuple[str, bytes, List[bytes]]

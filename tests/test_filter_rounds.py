@@ -6,7 +6,7 @@ PATH. Each run has to end with status 0, with as many additions as the proof has
 empty file. Then come proofs that are truncated, have a wrong line, or continue after the empty
 clause; formulas without clauses, or too large for a row; folders that aren't empty; and runs in
 which either side is killed at any time. Neither side may wait for the other forever. The filter is
-also built for tests, with -fsanitize=address,undefined if the compiler can."""
+also built for tests, with -fsanitize=address,undefined if the compiler supports it."""
 import contextlib
 import functools
 import os
@@ -101,8 +101,8 @@ def left(work: Path) -> List[str]:
 
 
 def want_refuted(checked: Checked, least: int, most: int, work: Path) -> None:
-    """The formula is refuted, in `least` to `most` rounds. The last file is what lrupd would have
-    saved."""
+    """The formula is refuted, in `least` to `most` rounds. The only file left is the empty one to
+    which lrupd would have saved the last round's checkpoint."""
     count = len(checked.rounds)
     want((checked.ends(), checked[2:]), ({"ended"}, ("", 0, "", 0)), "the ends, and what is said")
     want((least <= count <= most, left(work)), (True, [f"round-{count + 1}.cnf"]),
@@ -114,7 +114,7 @@ def want_refuted(checked: Checked, least: int, most: int, work: Path) -> None:
 
 
 def tidied(steps: Sequence[Step]) -> List[Step]:
-    """Each clause is deleted after it is cited last, so that little is carried over."""
+    """Each clause is deleted after its last use, so that little is carried over."""
     additions = [step for step in steps if step.kind == "a"]
     last: Dict[int, int] = {}
     for place, step in enumerate(additions):
@@ -143,8 +143,8 @@ def proof_of(formula: str, stream: str, form: str) -> Tuple[bytes, str, int]:
 
 
 def want_added(checked: Checked, count: int, form: str) -> None:
-    """There are as many additions as in the proof, or fewer without hints, since the filter adds
-    the empty clause as soon as unit propagation finds a conflict."""
+    """There are as many additions as in the proof, or fewer if it has no hints, since the filter
+    adds the empty clause as soon as unit propagation finds a conflict."""
     is_whole = "LRAT" in form or form == "FRAT with hints"
     assert (count if is_whole else 1) <= checked.added() <= count, (
         f"{checked.added()} additions of all rounds, and the proof has {count}")
@@ -215,9 +215,9 @@ def behind(work: Path) -> None:
 
 
 def rows_grow(work: Path) -> None:
-    """The first row has 2^20 words, for clauses of 16 literals; the next is twice as large, for
-    clauses as long as the earlier ones, but of at most 200. A row has enough lines for clauses of
-    half that length."""
+    """The first row has 2^20 words, and is made for clauses of 16 literals. The next row is twice
+    as large, and is made for clauses as long as the earlier ones, but of at most 200 literals. A
+    row has enough lines for clauses of half that length."""
     literals = list(range(3, 1003))
     formula = written(dimacs(1002, [[1, 2], [-1, 2], [1, -2], [-1, -2], literals]), work)
     text = " ".join(map(str, literals))
@@ -402,7 +402,7 @@ def without_errors(closing: str, work: Path) -> None:
 
 
 def locked(work: Path) -> None:
-    """A run locks its folder until it ends, however it ends, also between rounds. The lock holds
+    """A run locks its folder until it ends, however it ends, even between rounds. The lock holds
     for runs that use another name for the folder, too."""
     os.symlink("d", work / "link")
     with in_a_round(work) as sides:
@@ -459,7 +459,7 @@ def gone(number: int) -> str:
 
 def lrupd_ends(body: str, status: int, awaited: int, work: Path) -> None:
     """lrupd ends in round 1, for a reason of its own. The filter notices at the FIFO of that round
-    or the next one."""
+    or of the next one."""
     proof, word, _ = proof_of("bmc.cnf", "bmc.lrup", "binary DRAT")
     lrupd = in_place_of_lrupd(f"for stream; do :; done; {body}", work)
     checked = check(example("bmc.cnf"), proof, ["--memory", "48K", "--format", word],
@@ -514,8 +514,8 @@ def in_a_round(work: Path) -> Iterator[Sides]:
 
 
 def lrupd_killed(work: Path) -> None:
-    """Nobody will read the next stream. The current one can't be written, or was written just
-    before."""
+    """Nobody will read the next stream. The current stream can't be written, or was written just
+    before lrupd was killed."""
     with in_a_round(work) as sides:
         sides.checking.kill()
         sides.go_on()

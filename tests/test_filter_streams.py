@@ -1,11 +1,11 @@
 """Runs the filter on proofs without exact hints, and the program on the output.
 
 The recorded streams of examples/, with their hints shuffled, doubled and missing, with comments and
-extra spaces, have to become good streams with as many additions. The same goes for streams of
-several solvers with an import of each clause that they cite from another stream, for the recorded
-streams in each other form, and for CaDiCaL's DRAT text in tests/proofs. Then come limits from both
-sides, truncated proofs, pipes that stay open, and outputs that fail. Proofs of a few lines are in
-test_filter_lines.py."""
+extra spaces, have to become good streams with as many additions as before. The same goes for
+streams of several solvers with an import of each clause that they cite from another stream, for the
+recorded streams in each other form, and for CaDiCaL's DRAT text in tests/proofs. Then come limits
+from both sides, truncated proofs, pipes that stay open, and outputs that fail. Proofs of a few
+lines are in test_filter_lines.py."""
 import os
 import random
 import resource
@@ -216,7 +216,7 @@ def largest(program: str, work: Path) -> None:
 
 
 def largest_identity(digits: int, fits: bool, work: Path) -> None:
-    """Names may have 18 digits, as in a stream."""
+    """A proof's identities may have 18 digits, as in a stream."""
     name, formula = int("9" * digits), written(FOUR, work)
     binary = [b"a" + coding(name) + codes([2]) + coding(1) + coding(2) + b"\0"
               for coding in (code, varint)]
@@ -257,7 +257,7 @@ LINES = ["5 2 0 1 2 0", "5 d 1 0", "6 0 3 4 5 0"]
 
 
 def parts_of(form: str) -> Tuple[List[bytes], bytes]:
-    """The lines of the three steps, the first with all that precedes it; and what follows."""
+    """The lines of the three steps, the first with all that precedes it; and what follows them."""
     _, make = FORMS[form]
     parts = make(read_formula(example("four-clause.cnf")), STEPS)
     before = len([part for part in parts if part.startswith(b"o ")])

@@ -40,7 +40,7 @@ def lay(work: Path, streams: Sequence[str] = ROUNDS, others: Mapping[str, str] =
 
 
 def left(saved: Mapping[int, str] = {}) -> Dict[str, Optional[str]]:
-    """The expected formulas of the rounds at the end; others don't exist."""
+    """The rounds' formulas that are expected at the end, and None for those that don't exist."""
     return {"formula": FOUR, **{saved_name(number): saved.get(number) for number in range(1, 6)}}
 
 
@@ -88,7 +88,7 @@ def ends() -> Iterator[Named]:
 
 
 def sizes() -> Iterator[Named]:
-    """Sizes of round 1; lrupd reads those of later rounds."""
+    """Sizes of round 1; lrupd itself reads the sizes of later rounds."""
     yield chain("sizes", 0, ROUNDS, REFUTED,
                 others={"d/round-1.sizes": "1 1 1\n", "d/round-2.sizes": "1 1 1\n",
                         "d/round-3.sizes": "1 1 0\n"})
@@ -159,7 +159,7 @@ def unwritten(how: str, shell: str, script: Path, work: Path) -> None:
 
 
 def torn(shell: str, script: Path, work: Path) -> None:
-    """The checkpoint of round 2 is larger than that of round 1, and than the limit on files."""
+    """Files are limited to the size of round 1's checkpoint; round 2's is larger."""
     streams = [ROUNDS[0], "".join(f"{number} 2 0 4 0\n" for number in range(5, 25)), ROUNDS[2]]
     lay(work, streams)
     done = run([shell, script, "--lrupd", PROGRAM, "formula", "d"], cwd=work,
@@ -195,7 +195,7 @@ def packed(forms: Sequence[str], shell: str, script: Path, work: Path) -> None:
 
 
 def not_unpacked(shell: str, script: Path, work: Path) -> None:
-    """A truncated stream ends where it is truncated; without the unpacking program nothing is
+    """A truncated stream ends where it is truncated; without the unpacking program, nothing is
     checked."""
     names = lay_packed(["xz"], work)
     path = work / "d" / names[0]
@@ -307,7 +307,7 @@ def no_verdict(body: str, out: str, shell: str, script: Path, work: Path) -> Non
 
 
 def endless_sizes(source: str, shell: str, script: Path, work: Path) -> None:
-    """Endless sizes are read only as far as sizes may go."""
+    """Endless sizes are read only up to the length that sizes may have."""
     lay(work)
     sizes, pipe = work / "d/round-1.sizes", piped(work / "pipe")
     sizes.symlink_to("/dev/zero" if source == "/dev/zero" else pipe)
@@ -383,8 +383,8 @@ def live(shell: str, script: Path, work: Path) -> None:
 # A file that replaces a round's formula.
 
 SATISFIABLE = "p cnf 2 3\n1 2 0\n-1 2 0\n1 -2 0\n"
-# A formula from which round 1 derives 2; what replaces its checkpoint; round 2's stream, the
-# status, and how the report says that the stream ended.
+# A formula from which round 1 derives the clause 2; what replaces round 1's checkpoint; round 2's
+# stream, the status, and how the report says that the stream ended.
 FORGED = [("unsatisfiable", SATISFIABLE, "p cnf 2 4\n1 2 0\n-1 2 0\n2 0\n-2 0\n", "5 0 3 4 0\n", 3,
            "bad line 1 (not unit 3)"),
           ("a contradiction", SATISFIABLE, OTHER, "3 0 1 2 0\n", 3, "bad line 1 (identity)"),
@@ -481,8 +481,8 @@ def wrong(old: str, new: str, row: Row, work: Path) -> None:
 
 
 def in_manual(work: Path) -> None:
-    """The usage and the manual page have the same options; lrupd's help has those that are passed
-    on."""
+    """The usage and the manual page have the same options; lrupd's help has the options that
+    are passed on."""
     page, given = (ROOT / "docs" / "lrup-chain.1").read_text(), set(re.findall(r"--[a-z]+", USAGE))
     tagged = {"-" + word for line in re.findall(r"^\.It (Fl .*)$", page, re.M)
               for word in re.findall(r"Fl (-[a-z]+)", line)}

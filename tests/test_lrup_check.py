@@ -99,7 +99,7 @@ def one_stream(work: Path) -> None:
 
 
 def side_by_side(work: Path) -> None:
-    """Proofs of three forms by two solvers, and the beginning of one of them."""
+    """Proofs of three forms by two solvers, and the beginning of one of the proofs."""
     formula = generated("pigeons 6", work)
     proofs: List[Path] = []
     for number, command in enumerate(("cadical -q formula proof",

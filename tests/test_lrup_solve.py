@@ -30,7 +30,7 @@ from solving import (ANSWERS, EARLY, ELIMINATING, FOR_TESTS, PROGRAM, SOLVE, Ans
                      is_alive, kill_children, of_process, random_formula, solve, want_answer)
 
 MITERS = EXAMPLES / "miter"
-TRIES = 10      # of runs that may end before something happens to them
+TRIES = 10      # runs, since a run may end before the test intervenes
 SOON = 9        # seconds, fewer than a filter has for its last line
 PROGRESS = re.compile(rb"\r([^\r\n\x1b]* conflicts[^\r\n\x1b]*)\x1b\[K")
 
@@ -109,8 +109,8 @@ def as_alone(words: str, seed: int, work: Path) -> None:
 
 
 def holes(work: Path) -> None:
-    """As many pigeonholes as pigeons, which a lucky assignment satisfies. CaDiCaL tries lucky
-    assignments only once."""
+    """A formula with as many pigeonholes as pigeons, which a lucky assignment satisfies. CaDiCaL
+    tries lucky assignments only once."""
     names = [[pigeon * 40 + hole + 1 for pigeon in range(40)] for hole in range(40)]
     clauses = [list(pigeon) for pigeon in zip(*names)] + [
         [-one, -other] for hole in names for one in hole for other in hole if one < other]
@@ -136,9 +136,9 @@ def impostor(body: str, cause: str, work: Path) -> None:
 
 
 class Running:
-    """A run whose engines, filters and lrupd exist. Processes that haven't ended are killed when
-    the block is left. A build for tests starts lrupd with the first line, before a fast machine can
-    finish."""
+    """A run whose engines, filters and lrupd have all been started. Processes that haven't ended
+    are killed when the block is left. A build for tests starts lrupd with the first line, before a
+    fast machine can finish."""
     HOOKS = {"FIRST_WORDS": 1 << 22}
 
     def __init__(self, formula: Path, work: Path, ignored: Sequence[int] = ()) -> None:
@@ -169,7 +169,7 @@ class Running:
         return {"engine 1", "engine 2", "filter 1", "filter 2", "lrupd"} <= set(self.children)
 
     def end(self) -> Answer:
-        """The run's output; no child of it is left, and no file."""
+        """The run's output; none of its children is left, and no file."""
         out, said = self.process.communicate(timeout=LIMIT)
         until("its children end", lambda: not any(map(is_alive, self.children.values())))
         until("its files are removed", lambda: not os.listdir(self.folder))
@@ -216,7 +216,7 @@ def cubes(words: str, status: int, engines: int, work: Path) -> None:
 
 
 def randomly_cubed(seed: int, work: Path) -> None:
-    """The answer isn't 'unknown', as in `randomly`, in rounds and with assumptions."""
+    """As in `randomly`, the answer isn't 'unknown'; here in rounds and with assumptions."""
     numbers = random.Random(f"{seed} cubes")
     size = numbers.randrange(60, 150)
     formula = written(
@@ -314,7 +314,7 @@ def front_killed(work: Path) -> None:
 
 def gives_way(work: Path) -> None:
     """If memory is short, the system kills engines and filters first: their oom_score_adj is 1000,
-    the most there is, and nobody lowers it."""
+    the maximum, and nobody lowers it."""
     own = of_process(os.getpid(), "oom_score_adj")
     with Running(generated("pigeons 11", work), work) as running:
         until("engines and filters give way",
@@ -372,8 +372,8 @@ def read_terminal(leader: int) -> bytes:
 
 
 def shown_on_terminal(words: List[str], count: int, columns: int, work: Path) -> Tuple[bytes, str]:
-    """What is shown for some turns of the program's loop, and until that many progress lines have
-    come; and standard output."""
+    """What the terminal shows until the program's loop has taken some turns and that many progress
+    lines have come; and standard output."""
     leader, terminal = pty.openpty()
     fcntl.ioctl(terminal, termios.TIOCSWINSZ, struct.pack("HHHH", 24, columns, 0, 0))
     fcntl.fcntl(leader, fcntl.F_SETFL, os.O_NONBLOCK)
@@ -528,7 +528,7 @@ def options_listed(work: Path) -> None:
          "options of the manual page")
 
 
-# Rules of sharing: if a rule is left out, some run breaks; with all rules, none does.
+# Rules of sharing: if a rule is left out, some run breaks; with all rules, no run does.
 
 
 def rests_on(what: str, count: int, found: str, variables: Tuple[int, int], early: str,

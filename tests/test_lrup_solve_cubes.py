@@ -1,5 +1,5 @@
-"""Runs lrup-solve --cubes FILE: cubes that cover a formula or don't, that overlap or contradict,
-and wrong files.
+"""Runs lrup-solve --cubes FILE: cubes that cover a formula or don't, that overlap or are
+contradictory, and wrong files.
 
 There are one to four engines, rounds, assumptions and a killed engine; random formulas with random
 cubes; and the example. Cubes aren't trusted: each answer has to be right for the formula."""
@@ -31,15 +31,15 @@ def covering(variables: Sequence[int]) -> List[List[int]]:
 
 
 def refuted(answer: Answer) -> List[int]:
-    """How many cubes were refuted, of how many."""
+    """How many cubes were refuted, and how many there were."""
     found = [re.fullmatch(r"([\d,]+) of ([\d,]+) cubes? refuted", line) for line in answer.comments]
     return [int(number.replace(",", "")) for one in found if one for number in one.groups()]
 
 
 def taken(answer: Answer) -> List[int]:
     """How many cubes were dealt out, and how many handed on."""
-    found = [re.fullmatch(r"cubes: ([\d,]+) dealt out, [\d,]+ refuted, ([\d,]+) of lost "
-                          r"engines handed on", line) for line in answer.comments]
+    found = [re.fullmatch(r"cubes: ([\d,]+) dealt out, [\d,]+ refuted, ([\d,]+) handed "
+                          r"on from lost engines", line) for line in answer.comments]
     return [int(number.replace(",", "")) for one in found if one for number in one.groups()]
 
 

@@ -2,7 +2,7 @@
 is a verdict.
 
 Any process of a run may be killed, including the first one and the front, and one run may lose
-several. Each time everything that was saved before has to be there, and nothing else may be left:
+several. Each time, everything that was saved before has to be there, and nothing else may be left:
 no file, process or shared memory. Some records are copied, and changed, truncated or swapped, or
 resumed with another formula: that must not lead to a wrong answer, and a message has to name the
 file. The disk of some records is full now and then. The verdict is checked by the assignment, or by
@@ -110,8 +110,8 @@ class Chain:
             yield running
 
     def killed(self, pause: Optional[float], before: Callable[[], None] = lambda: None) -> Answer:
-        """A run in which a process is killed after each pause; without `pause` none is. No saved
-        round may be lost."""
+        """A run in which a process is killed after each pause; without `pause`, no process is. No
+        saved round may be lost."""
         saved, names = saved_rounds(self.kept), []
         with self.begun(before) as running:
             while running.poll() is None:
@@ -167,7 +167,7 @@ class Chain:
         status = {line: number for number, line in ANSWERS.items()}[answer.answers[0]]
         if answer.status == -signal.SIGKILL:        # the front had printed the answer by then
             return False
-        answer.said = ""        # an engine's last words
+        answer.said = ""        # may have an engine's last words
         want_answer(answer, status, self.formula)
         self.found(status)
         return True
@@ -233,7 +233,7 @@ def contents(folder: Path) -> "dict[str, bytes]":
 
 
 def of_another(chain: Chain) -> None:
-    """With another formula the record is refused, and nothing in it is touched."""
+    """With another formula, the record is refused, and nothing in it is touched."""
     other, before = (written(chain.formula.read_text() + "c more\n", chain.work, "other.cnf"),
                      contents(chain.kept))
     answer = solve(["--resume", chain.kept, other], tested=chain.tested)
@@ -242,7 +242,7 @@ def of_another(chain: Chain) -> None:
     want(contents(chain.kept) == before, True, "whether the record is as it was")
 
 
-# Disks that fill.
+# Disks that fill up.
 
 
 @contextlib.contextmanager

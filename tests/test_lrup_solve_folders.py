@@ -29,8 +29,8 @@ def open_to_others(mode: int, taken: bool, work: Path) -> None:
 
 
 def another_in_place(ends: int, work: Path) -> None:
-    """Another folder that has the temporary folder's name at the end isn't removed, nor is the
-    target of a link in the temporary folder. The run's own files are removed."""
+    """Another folder that has the temporary folder's name when the run ends isn't removed, nor is
+    the target of a link in the temporary folder. The run's own files are removed."""
     files, mine = work / "files", written("mine", work / "mine", "mine")
     files.mkdir()
     with started(command(["-j", "1", generated("pigeons 11", work)]),
@@ -69,8 +69,8 @@ def without_processes(work: Path) -> None:
 
 
 def cleaner_stopped(work: Path) -> None:
-    """The cleaner, which removes the folder if the run is killed, is stopped: the end doesn't wait
-    for it."""
+    """The cleaner, which removes the folder if the run is killed, is stopped: the run ends without
+    waiting for it."""
     files, go = work / "files", work / "go"
     files.mkdir()
     lrupd = before_lrupd(f"while [ ! -e {go} ]; do sleep 0.1; done", work)

@@ -37,7 +37,7 @@ def hostile(body: str, wanted: str, words: List[str], text: str, work: Path) -> 
 
 def by_pipe(work: Path) -> None:
     """If a formula comes from a pipe, the program can't write to its sealed copy, and so can't make
-    that unsatisfiable."""
+    the copy unsatisfiable."""
     body = """files = f"/proc/{front}/fd/"
 copies = [files + name for name in os.listdir(files)
           if "memfd:lrup-solve" in os.readlink(files + name)]
@@ -124,8 +124,8 @@ def never_began(words: List[str], work: Path) -> None:
 
 
 def without_lines(work: Path) -> None:
-    """Comments are printed one by one, without control bytes, and cut at a block's end; with -q
-    none is printed."""
+    """Comments are printed one by one, without control bytes, and cut at a block's end; with -q, no
+    comment is printed."""
     body = r"""say("c one\x1b[2J\ns UNSATISFIABLE\r\x07\x00two")
 say("c s UNSATISFIABLE")
 say("s UNSATISFIABLE\nv +++\nmodel")
@@ -203,7 +203,7 @@ def came_again(work: Path) -> None:
 
 
 def checkers_id_again(work: Path) -> None:
-    """After lrupd has ended with status 3, an orphan with its process id ends with 0."""
+    """After lrupd has ended with status 3, an orphan with lrupd's process id ends with status 0."""
     answer = run_with(AGAIN + """os.mkfifo(folder + '/round-1.stream-1')
 hears('probe')
 check()
@@ -218,8 +218,8 @@ again(pid, 0, here + '/again')""", [], SATISFIABLE, work)
 
 
 def readers_id_again(work: Path) -> None:
-    """After lrupd has refused the formula, an orphan with its process id ends with the status of a
-    probe that has read it."""
+    """After lrupd has refused the formula, an orphan with lrupd's process id ends with the status
+    of a probe that has read the formula."""
     lrupd = in_place_of_lrupd(
         "case \"$*\" in *' /dev/null') sleep 1;; esac\nexec " + shlex.quote(PROGRAM) + ' "$@"',
         work)
@@ -233,7 +233,7 @@ model('+')""", [], "p cnf 1 1\n1 -2 0\n", work, lrupd)
 
 
 def solvers_id_again(work: Path) -> None:
-    """A solver stops lrup-engines and kills lrupd, and a process with lrupd's id ends with 0."""
+    """A solver stops lrup-engines and kills lrupd; a process with lrupd's id ends with status 0."""
     attack = written(AGAIN + f"""
 def parent_of(pid):
     return int(open(f"/proc/{{pid}}/stat").read().rsplit(")", 1)[1].split()[1])

@@ -52,7 +52,7 @@ def want_no_other(answer: Answer, right: str, formula: Path) -> None:
 SOURCES = ROOT / "tools" / "solve" / "front"
 WRAPPERS = TESTS / "refuse_front.c"
 WRAPPED = set(re.findall(r"CALL\((\w+), ", WRAPPERS.read_text()))
-# The front calls no other functions of the libraries, as the linker shows.
+# Besides the wrapped functions, the front calls only these of the libraries, as the linker shows.
 CANNOT_FAIL = set("""__assert_fail __errno_location __isoc23_sscanf __isoc23_strtol __isoc99_sscanf
     __stack_chk_fail _exit clock_gettime dirname err errx feof ferror getenv getopt_long getpid
     getppid labs optarg opterr optind sigaddset sigemptyset sigfillset sscanf stdout strchr strcmp
@@ -61,8 +61,8 @@ ERRORS = {"read": ("EIO", "EINTR", "short"), "write": ("ENOSPC", "EINTR", "short
           "pread": ("EIO", "EINTR", "short"),
           **{name: ("ENOMEM", "EINTR") for name in ("close", "dup2", "fcntl", "fopen", "open",
                                                     "poll", "sigwaitinfo", "waitid", "waitpid")}}
-MOST = 12       # calls of one function
-WHOLE = 600     # SIGNALS with which each function is refused in each kind of run
+MOST = 12       # the most calls of one function
+WHOLE = 600     # the least SIGNALS for which each function is refused in each kind of run
 LIES = """signal.alarm(10)
 stream(1, {proof!r})
 hears('probe')
@@ -84,12 +84,12 @@ stream(1, "3 0 1 2 0\\n")
 check()
 hears("lrupd")"""
 ENGINES = str(SOLVE.with_name("lrup-engines"))
-UNDER_PROOF = "5 2 0 1 2 0\n"       # of SATISFIABLE, under -2
+UNDER_PROOF = "5 2 0 1 2 0\n"       # for SATISFIABLE, under the assumption -2
 
 
 class Kind(NamedTuple):
-    """A kind of run whose calls are refused, and its answer if none is. If functions are named, the
-    gate refuses only those."""
+    """A kind of run whose calls are refused, and its answer if no call is. If functions are named,
+    the gate refuses only those."""
     text: str
     body: str
     right: str
@@ -183,7 +183,7 @@ DEADLY = (signal.SIGHUP, signal.SIGINT, signal.SIGQUIT, signal.SIGABRT, signal.S
           signal.SIGUSR1, signal.SIGALRM, signal.SIGTERM, signal.SIGPIPE, signal.SIGSEGV,
           signal.SIGXCPU, signal.SIGKILL)
 SOON = 20       # seconds within which everything ends once the front is killed
-A_ROW = 6       # signals in a row
+A_ROW = 6       # signals per row
 
 
 def sent(numbers: random.Random, pid: int) -> Tuple[str, str]:

@@ -74,7 +74,7 @@ def keeps_by_short_names(work: Path) -> None:
 
 
 def writes_over(words: List[str], work: Path) -> None:
-    """In the record's folder no input is overwritten, whatever its name."""
+    """In the record's folder, no input is overwritten, whatever its name."""
     text, kept = example("bmc.cnf").read_text(), work / "kept"
     path, cube = written(text, kept, words[0]), written("0\n", kept, "assumptions")
     os.symlink(path, work / "link")
@@ -187,8 +187,8 @@ def locked(name: str, ends: int, work: Path) -> None:
 
 
 def own_files(name: str, work: Path) -> None:
-    """A file that has the name of a record's file, but isn't one, is left alone. Every run that has
-    read its formula leaves a record."""
+    """A file that has the name of a record's file, but isn't part of a record, is left alone. Every
+    run that has read its formula leaves a record."""
     own = work / "own"
     path, other = written("mine\n", own, name), written("mine\n", own, "round-5.cnf")
     refused(["--proofs", own, example("bmc.cnf")],
@@ -231,7 +231,7 @@ def own_list(text: Optional[str], work: Path) -> None:
 
 
 def replaced(work: Path) -> None:
-    """A record with a proof stays unless --replace is given; one without is replaced."""
+    """A record with a proof stays unless --replace is given; without a proof, it is replaced."""
     kept, words = work / "kept", ["-j", "1", "--proofs", work / "kept"]
     said = (f"lrup-solve: {kept} has the proof of an earlier run: add --replace, or choose "
             "another --proofs\n")
@@ -365,8 +365,8 @@ def contradicting(work: Path) -> None:
 
 
 def control_bytes(what: bytes, shown: str, work: Path) -> None:
-    """No control byte of a file or a name reaches a terminal. Other letters appear on standard
-    error; comments are in ASCII."""
+    """No control byte of a file or a name reaches a terminal. Letters beyond ASCII appear on
+    standard error, but not in comments."""
     name = os.fsdecode(b"a" + what)
     cube = written(b"1" + what + b" 0\n", work, "cube")
     said = [solve(["--assume", cube, written(FOUR, work)]).said, solve([name], cwd=work).said]
@@ -409,8 +409,8 @@ def refused(words: Sequence[object], cause: str, work: Path) -> None:
 
 
 def refused_by_lrupd(text: Text, words: List[str], known: str, work: Path) -> None:
-    """The message has lrupd's words, with the file's name and details; also for an input from a
-    pipe."""
+    """Whether an input is a file or comes from a pipe, the message has lrupd's words, with the
+    input's name and details."""
     formula = written(text, work, "a formula")
     words = [word.format(work=work) for word in words]
     for name, literals in (("bad", "-2 x 0\n"), ("beyond", "-7 0\n"), ("spaces", "1  2 0\n"),

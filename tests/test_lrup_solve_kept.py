@@ -29,7 +29,7 @@ ROUNDS = {"SAME_WORDS": 1, "SLICE": 50, "FIRST_WORDS": 4000}
 
 
 def core_of(path: Path, formula: List[Clause]) -> List[Clause]:
-    """Each clause comes after its number in the formula."""
+    """The clauses in the file. The line above each clause has its number in the formula."""
     header, *lines = path.read_text().splitlines()
     numbers = [int(line[len("c id "):]) for line in lines[::2]]
     clauses = [list(map(int, line.split()[:-1])) for line in lines[1::2]]
@@ -169,8 +169,8 @@ ANOTHERS = [
 
 
 def another_formula(piped: bool, work: Path) -> None:
-    """The record has the SHA-256 of the formula, as sha256sum writes it; its check, and lrup-trim,
-    notice another formula."""
+    """The record has the SHA-256 of the formula, as sha256sum writes it; the record's check, and
+    lrup-trim, notice another formula."""
     formula = generated("pigeons 5", work)
     words = ["-j", 1, "--proofs", "d"]
     answer = (solve(words, given=formula.read_text(), cwd=work) if piped
@@ -294,7 +294,7 @@ def moved_together(assumes: bool, work: Path) -> None:
 
 
 def only_with(tools: Sequence[str], work: Path) -> Dict[str, str]:
-    """A PATH that has only those of these programs that are installed, and what scripts may
+    """A PATH that has only these programs, if they are installed, and the ones that scripts may
     call."""
     place = work / "programs"
     place.mkdir()
@@ -306,7 +306,7 @@ def only_with(tools: Sequence[str], work: Path) -> Dict[str, str]:
 
 
 def digests_by(tool: str, work: Path) -> None:
-    """Whichever tool computes SHA-256s, the formula is checked; without such a tool nothing is
+    """Whichever tool computes SHA-256s, the formula is checked; without such a tool, nothing is
     checked."""
     if tool:
         needs(tool)
@@ -491,7 +491,7 @@ STRANGE = [("$(ran).cnf", "FORMULA;.cube"), ("`ran`;ran;", "ASSUME "), ("-$(ran)
 
 
 def strange_outputs(core: str, lrat: str, name: str, assumes: bool, work: Path) -> None:
-    """Right outputs are kept, whatever their names and the formula's are."""
+    """Right outputs are kept, whatever names they and the formula have."""
     formula, cube = (written(generated("pigeons 5", work).read_bytes(), work, name),
                      written("1 0\n", work, f"cube of {name}"))
     words = ["-j", 1, *["--assume", cube.name] * assumes, "--", name]
@@ -590,7 +590,7 @@ def check_interrupted(number: int, work: Path) -> None:
 
 
 def shown_sizes(work: Path) -> None:
-    """How much is kept and free, for a record or for its temporary replacement."""
+    """A comment says how many MB are kept and free, for a record or its temporary replacement."""
     formula = generated("pigeons 6", work)
     answer = solve(["-j", 1, "--proofs", "d", formula], cwd=work)
     found = [re.fullmatch(r"d: ([\d.]+) MB kept, [\d,]+ MB free", line) for line in answer.comments]
@@ -666,7 +666,7 @@ def full_of_rounds(work: Path) -> None:
 
 
 def explained(with_record: bool, work: Path) -> None:
-    """A record whose first line lacks its last hint is explained if lrupd reports it."""
+    """If lrupd reports a first line that lacks its last hint, comments say why the line is bad."""
     formula, record = generated("pigeons 5", work), "d/round-1.stream-1"
     spoils = f"[ ! -f {record} ] || sed -i '1s/ [0-9]* 0$/ 0/' {record}; "
     lrupd = before_lrupd(spoils + "echo 'c stream 1: 0 added, 0 deleted, bad line 1 (no "

@@ -78,8 +78,8 @@ def kills(seed: int, work: Path) -> None:
 
 
 class Kills:
-    """Kills lrupd in a run. The run would end after three starts in a row without the end of a
-    round, so no round gets more than two kills."""
+    """Kills lrupd in a run. The run would end if lrupd started three times in a row without ending
+    a round, so no round gets more than two kills."""
 
     def __init__(self, running: "subprocess.Popen[str]", kept: Path,
                  numbers: random.Random) -> None:
@@ -101,7 +101,7 @@ class Kills:
         return self.running.poll() is not None
 
     def kill(self, most: float) -> None:
-        """Kills lrupd, at most that many seconds after it has become possible."""
+        """Waits until lrupd can be killed, and kills it at most that many seconds later."""
         until("lrupd is there", lambda: self.lrupd() != 0 or self.has_ended())
         if len(self.rounds) > 1:
             until("a round has ended", lambda: self.round() > self.rounds[-2] or self.has_ended())
@@ -148,8 +148,8 @@ def killed_again(words: str, count: int, most: float, hooks: Optional[Mapping[st
 
 
 def gone(work: Path) -> None:
-    """A stream that another lrupd would have to read has been packed meanwhile: the run ends, with
-    a reason."""
+    """A stream that another lrupd would have to read has been packed meanwhile: the run ends, and a
+    comment says why."""
     marked(work)
     kept, hooks = work / "kept", {"SAME_WORDS": 1, "FIRST_WORDS": 5000}
     with started(command(["-j", "2", "--proofs", kept, generated("pigeons 11", work)], hooks),

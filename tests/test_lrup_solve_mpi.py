@@ -30,10 +30,11 @@ from solving import (Answer, built, check_again, children_of, command, in_enviro
 SMALL_FORMULAS = (("bmc.cnf", 20), ("pigeonhole.cnf", 20), ("random 200 22 4.2", 10))
 # Rows that don't grow, and frequent exchanges.
 SMALL = {"SAME_WORDS": 1, "SLICE": 100, "EXCHANGING": 50}
-# Seconds that mpirun gives to processes that it ends, to report why.
+# Seconds that mpirun waits before it kills processes, so that they can still report the cause.
 PATIENCE = ["--mca", "odls_base_sigkill_timeout", "3"]
 ENDED = 30      # seconds within which a hopeless run has to end; it takes ten on an idle machine
-LATE = ["sh", "-c", 'test "$OMPI_COMM_WORLD_RANK" != 0 || sleep 2; exec "$@"', "sh"]    # process 0
+# Words before a command that delay it in process 0.
+LATE = ["sh", "-c", 'test "$OMPI_COMM_WORLD_RANK" != 0 || sleep 2; exec "$@"', "sh"]
 BROKEN = "bad line|hasn't accepted|hasn't saved"
 # The cause is whichever of these is seen first.
 ENGINE_KILLED = "the engine ended by a signal: Killed|its filter stopped: .*the proof ends "
@@ -41,7 +42,7 @@ GROWING = 16_000_000    # bytes: two streams with 4 MB on the way, 2 MB waiting,
 
 
 def by_mpi(processes: int, before: Sequence[str] = (), more: Sequence[str] = ()) -> List[str]:
-    """Words that start that many processes on this host, also as root; none for 0 processes.
+    """Words that start that many processes on this host, even as root; for 0 processes, no words.
     mpirun's own lines are left out."""
     as_root = ["--allow-run-as-root"] * (os.getuid() == 0)
     launcher = ["mpirun", "-q", *as_root, "--oversubscribe", "--bind-to", "none", *more, "-n",
@@ -108,7 +109,7 @@ def cubes(status: int, words: str, work: Path) -> None:
 
 
 def cubes_of_a_file(processes: int, engines: int, work: Path) -> None:
-    """Engines of all processes take cubes, and process 0 knows which are refuted."""
+    """Engines of all processes take cubes, and process 0 knows which cubes are refuted."""
     formula, kept = generated("random 200 3 4.6", work), work / "kept"
     signs = itertools.product(*((-one, one) for one in range(1, 7)))
     file = written("".join(f"a {' '.join(map(str, cube))} 0\n" for cube in signs), work, "cubes")
@@ -152,8 +153,8 @@ def in_rounds(processes: int, words: str, size: int, options: List[str], status:
 
 
 def resumed(first: int, second: int, tested: Optional[Dict[str, object]], work: Path) -> None:
-    """A run with the first number of processes is killed, and one with the second number resumes
-    it. 0 means without MPI."""
+    """A run with `first` processes is killed, and a run with `second` processes resumes it; 0 means
+    without MPI."""
     marked(work)
     formula, kept, often = (generated("pigeons 8", work), work / "kept",
                             ["--save-every", "0.1"] * (tested is None))
@@ -223,7 +224,7 @@ def breaks(answer: Answer) -> bool:
 
 
 def rests_on(what: str, late: str, work: Path) -> None:
-    """Late messages break nothing, and are dropped. Without that rule, nearly all runs break."""
+    """Late messages break nothing, and are dropped. Without this rule, nearly all runs break."""
     broken = 0
     for seed in range(3):
         words = ["-v", "-j", "1", generated(f"random 250 {seed} 5", work)]
@@ -239,7 +240,7 @@ def rests_on(what: str, late: str, work: Path) -> None:
 
 def lines_first(work: Path) -> None:
     """Streams are sent only once they are whole, and clauses that rest on them only after that: in
-    a run of one round, engine 1 gets no clause. Without the rule it gets some."""
+    a run of one round, engine 1 gets no clause. Without the rule, it gets some."""
     for omitted in ({}, {"WITHOUT": "clearing"}):
         tested = {**SMALL, "FIRST_WORDS": 8000000, "EXCHANGING": 10, "LATE": "lines"}
         answer = solve(3, ["-v", "-j", "1", generated("random 220 0 5", work)],
@@ -408,7 +409,7 @@ def stands_still(pids: List[int]) -> bool:
 
 
 def slow_checker(work: Path) -> None:
-    """While lrupd is stopped, nothing grows; when lrupd continues, everything else does, too."""
+    """While lrupd is stopped, no file grows; once lrupd continues, the run continues, too."""
     running = Running(generated("pigeons 9", work), 2, {"AHEAD": 2000000})
     runs, lrupd = [one["run"] for one in running.ids], running.ids[0]["lrupd"]
     os.kill(lrupd, signal.SIGSTOP)

@@ -434,7 +434,7 @@ def of_another(work: Path) -> None:
 
 
 def kept_by_others(work: Path) -> None:
-    """Saved rounds of an unfinished run stay, also if lrup-check is run, unless --replace is
+    """Saved rounds of an unfinished run stay, even if lrup-check is run, unless --replace is
     given."""
     marked(work)
     formula, kept = generated("pigeons 8", work), work / "d;"

@@ -109,7 +109,7 @@ def assuming(engines: int, work: Path) -> None:
 
 
 def rows_grow(work: Path) -> None:
-    """Each row, including the formula, is twice the one before, up to --memory."""
+    """Each row, including the formula, is twice as large as the one before, up to --memory."""
     answer = solve(["-v", "-j", "2", "--memory", "3200K", generated("random 220 5", work)],
                    tested={"FIRST_WORDS": 10000})
     want_answer(answer, 20)
@@ -152,8 +152,8 @@ def doubled_literals(work: Path) -> None:
 
 
 def small_rows(memory: str, words: str, engines: int, work: Path) -> None:
-    """However small --memory is, a row has room for the live clauses, and as much again. A comment
-    says if that is more than --memory."""
+    """However small --memory is, a row has room for the live clauses, and as much again. If that is
+    more than --memory, a comment says so."""
     answer = solve(["-v", "-j", engines, "--memory", memory, generated(words, work)])
     want_answer(answer, 20)
     want(answer.lost(), [], "engines that are lost")
@@ -168,7 +168,7 @@ def small_rows(memory: str, words: str, engines: int, work: Path) -> None:
 
 
 def engines_go(engines: int, options: List[str], work: Path) -> None:
-    """If no row may be larger, engines end one after the other, except the last one, whose row may
+    """If no row may be larger, engines end one after the other; the last one stays, and its row may
     be larger."""
     kept = work / "kept"
     answer = solve(["-v", "-j", engines, "--memory", "20K,100K", "--proofs", kept, *options,
@@ -263,7 +263,7 @@ class Running:
             self.stop_lrupd(signal.SIGCONT)
 
     def end(self, limit: float = LIMIT) -> Answer:
-        """The run's output; no child of it is left, and no file."""
+        """The run's output; none of its children is left, and no file."""
         out, said = self.process.communicate(timeout=limit)
         until("its children end", lambda: not any(map(is_alive, self.children.values())))
         until("its files are removed", lambda: not os.listdir(self.folder))
@@ -353,7 +353,7 @@ def folder_removed(work: Path) -> None:
             while folder.exists():
                 shutil.rmtree(folder, ignore_errors=True)
         answer = running.end()
-    if answer.status == 1:      # the next round's files
+    if answer.status == 1:      # the next round's files can't be made
         return want((answer.answers,
                      re.search(r"cannot (open|make) \S*/round-\d+\.", answer.said) is not None),
                     ([], True), f"the message: {answer.said}")
@@ -508,7 +508,7 @@ def stays_small(work: Path) -> None:
              f"kilobytes of {name}, {before[name]} and then {size}")
 
 
-# Rules of sharing between rounds: if a rule is left out, some run breaks; with all rules, none
+# Rules of sharing between rounds: if a rule is left out, some run breaks; with all rules, no run
 # does.
 
 

@@ -86,8 +86,8 @@ def in_rounds(name: str, commands: List[str], words: List[str], work: Path) -> N
 
 
 def late(form: str, work: Path) -> None:
-    """The proof begins after some rounds, and the engine is still running. LRAT names the formula's
-    clauses, in order."""
+    """The proof begins after some rounds, while the engine is still running. LRAT names the
+    formula's clauses, in order."""
     formula, commands = given("random 220 5", work), {"DRAT": CADICAL, "DRUP": AS_TEXT,
                                                       "FRAT": CRYPTOMINISAT, "PicoSAT": PICOSAT}
     if form == "LRAT":
@@ -119,9 +119,9 @@ def gaps(work: Path) -> None:
 
 
 def small_outbox(work: Path) -> None:
-    """Engines beside a solver, which reads no outbox: more clauses, each of three words or more, go
-    through a small outbox than it holds. The proof is longer than what a pipe holds, so that
-    engines don't get ahead of their filters, which are slow in a build for tests."""
+    """Engines beside a solver, which reads no outbox: more clauses go through a small outbox than
+    it holds at once; each clause has three words or more. The proof is longer than what a pipe
+    holds, so that engines don't get ahead of their filters, which are slow in a build for tests."""
     answer = solve(["-v", "-j", "2", *by(["sleep 1000 # %formula %proof"]),
                     given("random 235 3", work)],
                    tested={"OUTBOX": 240, "SLICE": 100})
@@ -198,7 +198,7 @@ def sealed(work: Path) -> None:
 
 UNFOUNDED = "it says 'satisfiable', but gives no assignment in lines v"
 MODEL = "echo s SATISFIABLE; echo v {}; exit 10"
-# A command; the cause if it is alone.
+# A command, and the cause that is reported if it is the only solver.
 NOTHING = [("exit 1 # %formula %proof", "the solver ended with status 1"),
            ("exit 127 # %formula %proof", "the solver ended with status 127: command not found"),
            ("kill -9 $$ # %formula %proof", "the solver ended by a signal: Killed"),
@@ -282,7 +282,7 @@ def beside_others(command: str, formula: Path) -> None:
 
 
 def missing(work: Path) -> None:
-    """A missing solver is beside a good one: the loss is reported, and the summary counts the
+    """A missing solver beside a good one: the loss is reported, and the summary counts the
     remaining solvers."""
     answer = solve([*by(["sleep 1; " + CADICAL, "no-such-solver %formula %proof"]),
                     given("random 120 5", work)])
@@ -308,8 +308,8 @@ def after_a_model(work: Path) -> None:
 
 
 def silent_solver(command: str, work: Path) -> None:
-    """A solver neither reads nor answers until the run ends. Alone, it uses up the time; beside a
-    good solver, the good one answers. The silent one is ended, with its children."""
+    """A solver that neither reads nor answers until the run ends. Alone, it uses up the time;
+    beside a good solver, the good one answers. The silent one is ended, with its children."""
     mark, formula = marked(work), given("random 120 5", work)
     answer = solve(["--time", "1", *by([command]), formula])
     want((answer.answers, answer.comments[0], answer.status),

@@ -181,7 +181,7 @@ def left_out(number: int, name: str, work: Path) -> None:
 
 
 def named(work: Path) -> None:
-    """Each mark has an attack, and each attack a line."""
+    """Each mark has an attack, and each attack has a marked line."""
     want(sorted(MARKS.values()), sorted(ATTACKS), "the words of the marks")
 
 

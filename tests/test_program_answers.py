@@ -66,7 +66,7 @@ def refused_formula(fault: str, text: str) -> Named:
 
 
 def assumed(name: str, status: int, text: str, options: str) -> Named:
-    """A stream that derives 2 from two clauses, under the assumptions in this text."""
+    """A stream that derives the clause 2 from two clauses, under the assumptions in this text."""
     words = ["--assume", "cube", *options.split(), *ASSUMED]
     return f"{name} {options}", Wanted(words, status, report([ADDED], status), files={"cube": text})
 
@@ -356,8 +356,8 @@ def full_outputs() -> Iterator[Named]:
 
 
 def usage(program: str, words: List[str], work: Path) -> None:
-    """There is no report, but help or one usage fault, whose words aren't lrupd's own. Its first
-    line comes once."""
+    """There is no report, but help or one usage fault, in words that aren't lrupd's own. The first
+    line isn't repeated."""
     out, err, status = answered(program,
                                 Wanted(words, 2, files={**FILES, "cube": CUBE.read_text()}), work)
     want((out, status), ("", 2), "the output and the status")

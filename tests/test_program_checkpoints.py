@@ -1,8 +1,8 @@
 """Runs the program with --checkpoint, and compares its answers and checkpoints.
 
-Rows have the checkpoint's bytes; for recorded streams, they follow from the rules. If no file may
-be created, nothing is touched; if saving fails, there is still a report. A checkpoint is a formula
-that the program accepts; a part of a checkpoint, as a full disk leaves it, isn't."""
+Rows have the checkpoint's bytes; for recorded streams, these are computed from the rules. If no
+file may be created, nothing is touched; if saving fails, there is still a report. A checkpoint is a
+formula that the program accepts; a part of a checkpoint, as a full disk leaves it, isn't."""
 import os
 import shutil
 from pathlib import Path
@@ -279,12 +279,13 @@ def refused(fault: str, count: int, program: str, work: Path) -> None:
 
 def recorded(program: str, way: str, formula: Path, names: List[str], part: float,
              work: Path) -> None:
-    """Runs the first lines of each stream, so that none derives the empty clause. The checkpoint of
-    a run over the checkpoint has the same clauses."""
+    """Runs the first lines of each stream, so that none derives the empty clause. Another run, over
+    the checkpoint, saves the same clauses again."""
     streams = []
     for name in names:
         lines = example(name).read_text().splitlines(True)
-        # All streams keep as many lines, so that, in turn, a line comes after what it cites.
+        # All streams keep the same number of lines, so that, in turn, each line comes after what
+        # it cites.
         count = int(part * min(len(example(other).read_text().splitlines()) for other in names))
         streams.append(written("".join(lines[:count]), work, name))
     entries, saved = live(formula, streams), work / "saved"

@@ -14,7 +14,7 @@ from harness import PROGRAM, Row, example, needs, parametrized, report, run, wan
 
 FOUR_SOLVERS, LONG_LINES = 6_259_316, 9_082_910
 MARGIN = 0.05
-LITERALS, HINTS = 65_535, 65_536    # the most of one line
+LITERALS, HINTS = 65_535, 65_536    # the most in one line
 ASSUMED, LINES = 20_000, 400
 
 

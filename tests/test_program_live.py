@@ -21,7 +21,7 @@ BAD = "lrupd: stream 1: 0 added, 0 deleted, bad line 1 (spelling)\n"
 
 
 class Late(NamedTuple):
-    """The arguments, the pipes, those whose writers come late, in the order of opening, and the
+    """The arguments, the pipes, the pipes whose writers come late, in the order of opening, and the
     answer without the lines of --watch."""
     words: str
     pipes: List[str]
@@ -99,7 +99,7 @@ def checkpoint_at_the_end(program: str, work: Path) -> None:
 
 
 def late_writers(row: Late, program: str, work: Path) -> None:
-    """With --watch, each pipe that has no writer for a second is named; without it, none is. Each
+    """With --watch, each pipe that has no writer for a second is named; otherwise no pipe is. Each
     late pipe gets its writer after some time, with --watch after the line that names the pipe."""
     for name in row.pipes:
         pipe = piped(work / name)

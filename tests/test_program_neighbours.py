@@ -1,9 +1,9 @@
 """Runs the program on a good proof of some thousand lines beside hostile neighbours, one after the
 other.
 
-The proof cites no other stream, so its line in the report has to be the same each time, with
-threads and with --serial, as beside an empty stream. For some neighbours, the line of the neighbour
-is known, too."""
+The proof cites no other stream, so its line in the report has to be the same each time as beside an
+empty stream, with threads and with --serial. For some neighbours, the line of the neighbour is
+known, too."""
 import os
 import random
 import subprocess
@@ -21,12 +21,12 @@ Process = Any
 
 
 def own(identity: int) -> str:
-    """Turns an identity of a single stream into one of stream 1 of two."""
+    """Renumbers an identity of a single stream for the first of two streams."""
     return str(identity if identity <= CLAUSES else CLAUSES + 1 + 2 * (identity - CLAUSES - 1))
 
 
 def renumbered(line: str) -> str:
-    """Turns a line of a single stream into one of stream 1 of two."""
+    """Renumbers a line of a single stream for the first of two streams."""
     words = line.split()
     if words[1] == "d":
         return " ".join([own(int(words[0])), "d",
@@ -87,7 +87,7 @@ def neighbours(proof: str) -> Iterator[Neighbour]:
     lines = proof.splitlines(keepends=True)
     derived = [line.split()[0] for line in lines if line.split()[1] != "d"]
     first = CLAUSES + 2  # the first identity of stream 2
-    never = int(derived[-1]) + 2_000  # of stream 1, which doesn't get that far
+    never = int(derived[-1]) + 2_000  # an identity of stream 1, which doesn't get that far
     size = 1_000_000
     yield Neighbour("nothing", b"", "0 added, 0 deleted, ended")
     yield Neighbour("endless bytes", endless)

@@ -3,11 +3,12 @@ in turn, and compares each answer and checkpoint with the permitted ones.
 
 It builds refuse.c, which the loader puts before the C library, and runs the program with the first
 call of a kind refused, then the second, and so on until a run meets no refusal; that run has to
-give the normal answer. Then it does so with a few of the crates' tests: runs without the program
-around them, calls that can be repeated, and calls that allocate nothing. Tests that `rt ci` built
-are used as they are; others are built with --rt. If a thread isn't started, those that were started
-have to end before that is reported, and pipes that stay open may delay nothing; a program that
-waits for no thread has to be found wrong. Last, the memory of a store has to be given back."""
+give the normal answer. Then it does the same with a few of the crates' tests: runs without the
+program around them, calls that can be repeated, and calls that allocate nothing. Tests that `rt ci`
+built are used as they are; others are built with --rt. If a thread isn't started, those that were
+started have to end before that is reported, and pipes that stay open may delay nothing; a program
+that waits for no thread has to be found wrong. Last, the memory of a store has to be given
+back."""
 import itertools
 import os
 import re
@@ -27,10 +28,10 @@ from rounds import ONE, TWO, Proof
 
 
 class Test(NamedTuple):
-    """A test, its answers if an allocation is refused, and for how many streams it starts threads;
-    whether it reports each refusal, since all its allocations are made by calls with such an
-    answer; the last allocation to refuse, if later ones are for threads of the test that wait for
-    each other; and whether it checks the refusal's effect itself, and passes."""
+    """A test, its answers if an allocation is refused, and for how many streams it starts threads.
+    `always`: it reports each refusal, since all its allocations are made by calls with such an
+    answer. `last`: the sweep ends at this allocation, since later ones are for threads of the test
+    that wait for each other. `looks`: it checks the refusal's effect itself, and passes."""
     crate: str
     name: str
     causes: List[str]
@@ -348,8 +349,8 @@ def leave(machine: Machine, folder: Path, count: int) -> Tuple[int, List[str]]:
 
 def kept(work: Path) -> None:
     """A test that opens and drops a store of 16 million words four times. Opening takes 128,000,000
-    bytes for the row, and as much again until it returns. 307,200,000 are allowed; a second list
-    that is still there would need 384,000,000."""
+    bytes for the row, and as much again until it returns. 307,200,000 are allowed; if either of
+    these were still there, the next opening would need 384,000,000."""
     name, most = "memory::a_large_store_is_given_back", 307_200_000
     ran = run([program_of_tests("clause_store"), f"tests::{name}"],
               preexec_fn=lambda: resource.setrlimit(resource.RLIMIT_AS, (most, most)))

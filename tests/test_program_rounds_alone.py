@@ -1,8 +1,8 @@
 """Runs the program with --rounds, and each of these rounds separately, with --checkpoint, on the
-checkpoint of the round before: the last report has to be that of the last run, and each file has to
-have the same bytes.
+checkpoint of the round before: the report has to be the last separate run's, and each checkpoint
+has to have the same bytes.
 
-Recorded streams are cut into rounds, and random ones are derived on the way, with some wrong
+Recorded streams are cut into rounds, and random streams are written round by round, with some wrong
 lines."""
 import random
 import shutil
@@ -17,7 +17,7 @@ from rounds import first_words, saved_name, stream_name
 
 TRIES = ["--tries", "1000000"]
 WAYS: List[List[str]] = [[], ["--serial"]]
-# Each with the numbers of rounds into which it is cut.
+# Each proof with the numbers of rounds into which it is cut.
 RECORDED = [("four-clause.cnf", ["four-clause.lrup"], (1, 2)),
             ("pigeonhole.cnf", ["pigeonhole.lrup"], (2, 7)), ("bmc.cnf", ["bmc.lrup"], (3, 9)),
             ("pigeonhole.cnf", ["pigeonhole-two.1", "pigeonhole-two.2"], (3,)),

@@ -182,7 +182,7 @@ def wrong_sizes() -> Iterator[Named]:
                            others={**sized(2, "1 1 1\n"), **sized(3, text)})
 
 
-# Two lines over the four clauses, with three literals in all: they derive 2 and 2 1.
+# Two lines over the four clauses, with three literals in all: they derive the clauses 2 and 2 1.
 LINES, LINES_SAID = "5 2 0 1 2 0\n6 2 1 0 5 0\n", "2 added, 0 deleted, ended"
 LINES_SAVED = FOUR.replace("2 4", "2 6") + "2 0\n2 1 0\n"
 NO_LINE = "1 added, 0 deleted, bad line 2 (identity)"
@@ -190,7 +190,7 @@ NO_ROOM = "1 added, 0 deleted, bad line 2 (no room)"
 
 
 def sizes() -> Iterator[Named]:
-    """Each limit from both sides; without a file of sizes, those of the round before apply."""
+    """Each limit from both sides; without a file of sizes, the previous round's sizes apply."""
     def second(text: str, said: str, saved: str, options: str = "") -> Iterator[Named]:
         """The two lines in round 2, with sizes of this text."""
         yield from rounds(f"sizes {text!r} {options}", 3, [[""], [LINES]], last(2, [said], 3),
@@ -322,7 +322,7 @@ def want_checkpoints(count: int, work: Path) -> None:
 
 
 def torn(number: int, assumed: bool, program: str, way: List[str], work: Path) -> None:
-    """The checkpoint after this round is larger than those before, and than the limit on files."""
+    """Files are limited to the size of the formula; the checkpoint after this round is larger."""
     texts = ([[""]] * (number - 1)
              + [["".join(f"{identity} 2 0 1 2 0\n" for identity in range(5, 25))], [REFUTING]])
     for name, text in {**round_files(texts), "cube": "-2 0\n"}.items():

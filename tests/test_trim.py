@@ -4,10 +4,11 @@ There are 300 (or --count) random runs of one to five solvers, with and without 
 seven rounds, some under an assumption, some with new hints; and as many garbled records. The core
 has to consist of clauses of the formula; lines have to be numbered densely, and each clause has to
 be cited, and deleted right after its last use. With the commands that lrup-trim prints, lrupd has
-to accept the lines over the core and over the formula; for garbled streams, both or none, as the
-LRAT checker does, and none if the formula is satisfiable. Records of lrup-solve are trimmed if
-CaDiCaL's library is installed. While streams are rewritten and truncated, all outputs or none are
-written. lrup-trim is built for tests, with -fsanitize=address,undefined if the compiler can."""
+to accept the lines over the core and over the formula. For garbled streams, it has to accept both
+or neither, as the LRAT checker does; if the formula is satisfiable, neither. Records of lrup-solve
+are trimmed if CaDiCaL's library is installed. While streams are rewritten and truncated, all
+outputs or none are written. lrup-trim is built for tests, with -fsanitize=address,undefined if the
+compiler supports it."""
 import hashlib
 import mmap
 import os
@@ -45,7 +46,7 @@ def outputs_of(work: Path, names: Sequence[str] = OUTPUTS) -> List[object]:
 
 
 def core_of(path: Path) -> Tuple[int, List[int], List[Clause]]:
-    """The header's number of variables; each clause's number and literals, a line for each."""
+    """The header's number of variables; each clause's number and literals, on a line each."""
     header, *lines = path.read_text().splitlines()
     numbers = [int(line[len("c id "):]) for line in lines[::2] if line.startswith("c id ")]
     clauses = [[int(word) for word in line.split()] for line in lines[1::2]]
@@ -270,7 +271,7 @@ def fewer_streams(work: Path) -> None:
 
 
 def assuming(work: Path) -> None:
-    """Lines after the clause that contradicts the assumptions, and some before, aren't needed."""
+    """Lines after the clause that contradicts the assumptions aren't needed, nor some before it."""
     stream = written("3 2 1 0 1 0\n4 2 0 1 2 0\n5 1 2 0 4 0\n", work, "a stream")
     trimmed(example("assumed.cnf"), [stream], work, example("assumed.cube"))
     want((work / "stream").read_text(), "3 2 0 1 2 0\n", "the stream")
@@ -397,7 +398,7 @@ def satisfiable(number: int, work: Path) -> None:
 
 
 def fault(streams: Sequence[str], said: Sequence[str], work: Path) -> None:
-    """These faulty lines are reported; without them nothing refutes the four clauses."""
+    """These faulty lines are reported; without them, nothing refutes the four clauses."""
     for number, text in enumerate(streams, 1):
         written(text, work, f"f{number}")
     done = trim([*outputs_of(work), written(FOUR, work),

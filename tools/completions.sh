@@ -3,7 +3,7 @@
 #
 #     sh tools/completions.sh PROGRAMS FOLDER
 #
-# For other words bash completes file names.
+# For other words, bash completes file names.
 set -eu
 [ $# -eq 2 ] || { echo "usage: sh $0 PROGRAMS FOLDER" >&2; exit 2; }
 for program in "$1"/lrup*; do

@@ -2,9 +2,9 @@
 #
 #     awk -v program=lrup-check -f tools/help.awk docs/lrup-*.1
 #
-# The program's own page has the synopsis and, up to .Pp, what the program does. Each item of a list
-# below a comment like 'help of lrup-solve, lrup-check' is taken up to the end of its first
-# sentence.
+# The program's own page has the synopsis and, up to .Pp, what the program does. Of each item of a
+# list below a comment like 'help of lrup-solve, lrup-check', the text up to the end of the first
+# sentence is used.
 
 # Returns the line without macros.
 function plain(line,    end, name) {
@@ -35,7 +35,7 @@ function put(line) {
     print "\"" line "\\n\""
 }
 
-# Prints text with this indent: after the head, or below the head if that is too long.
+# Prints text with this indent: after the head, or below it if the head is too long.
 function wrap(head, text, indent,    word, count, k, line) {
     line = head substr(indent, length(head) + 1)
     if (length(head) >= length(indent)) {

@@ -111,7 +111,7 @@ static inline int numbers(Reader *reader, List *list) {
     }
 }
 
-// Makes a clause of the trail's literals, which are distinct.
+// Makes a clause from the trail's literals, which are distinct.
 static Clause *keep(Stream *s, uint32_t len) {
     size_t size = (sizeof(Clause) + len * sizeof(uint32_t) + 7) & ~(size_t)7;
     if (size > s->block_left) {
@@ -142,7 +142,7 @@ static inline int owns(const Stream *s, uint64_t id) {
     return id > clauses && id <= last_identity && (id - clauses - 1) % streams == s->number - 1;
 }
 
-// An identity's clause; 0 if there is none even after all tries.
+// An identity's clause; 0 if it has no clause even after all tries.
 static inline uintptr_t look(const Stream *s, uint64_t id) {
     if (id == 0 || id > last_identity) return 0;
     uintptr_t found = atomic_load_explicit(&clause_at[id], memory_order_acquire);

@@ -12,8 +12,8 @@
     easy.py simulation STEPS
         a register of 32 bits in Verilog, unrolled by yosys, becomes 0 in STEPS steps; needs yosys
 
-With 'reversed' the last clause comes first. Unit propagation refutes all of them except the failed
-literal's."""
+With 'reversed' the last clause comes first. Unit propagation refutes all these formulas except
+those of `failed`."""
 import subprocess
 import sys
 import tempfile
@@ -34,7 +34,7 @@ SCRIPT = ("read_verilog {folder}/register.v; prep -top register; sat -timeout 1 
 
 
 def units(variables):
-    """Unit propagation visits all variables in a row."""
+    """Unit propagation visits all variables, one after the other."""
     steps = [(-variable, variable + 1) for variable in range(1, variables)]
     return variables, [(1,), *steps, (-variables,)]
 

@@ -123,7 +123,7 @@ def measure(given: argparse.Namespace, bench: Bench, every: List[Formula], folde
 
 
 def median(results: List[Result]) -> Optional[Result]:
-    """The medians of the runs; none if there is no run, or one found no answer."""
+    """The medians of the runs; None if there is no run, or if any run found no answer."""
     if not results or any(result.status != UNSATISFIABLE for result in results):
         return None
     middle = {name: statistics.median(getattr(result, name) for result in results)

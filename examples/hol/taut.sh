@@ -1,7 +1,7 @@
 #!/bin/sh
 # Makes HOL Light prove the 61 tautologies of its Minisat/taut.ml with lrup-solve, which has to be
-# on the PATH. It needs Debian's packages hol-light and libnum-ocaml-dev, and some minutes, most of
-# them to start HOL Light.
+# on the PATH. The script needs Debian's packages hol-light and libnum-ocaml-dev, and some minutes,
+# most of them to start HOL Light.
 set -u
 command -v hol-light > /dev/null || { echo "taut.sh: no hol-light: it needs Debian's packages hol-light and libnum-ocaml-dev" >&2; exit 1; }
 for command in lrup-solve python3; do

@@ -74,10 +74,10 @@ static void minimise(Solver *solver) {
     clear_marks(solver);
 }
 
-// In a clause of the chain all literals are false except the one that it implied. So each other
-// literal has to be false before: a literal of the learnt clause is false at first; a literal of
-// level 0 needs its unit clause; any other literal needs its reason, which is then another clause
-// of the chain. Returns how many such reasons are new.
+// When the chain comes to a clause, all its literals except the one that it implies have to be
+// false: a literal of the learnt clause is false from the start; a literal of level 0 needs its
+// unit clause; any other literal needs its reason, which is then another clause of the chain.
+// Returns how many such reasons are new.
 static int need(Solver *solver, const Clause *clause, Identities *level_zero) {
     int found = 0;
     for (unsigned k = 0; k < clause->length; k++) {
@@ -91,11 +91,11 @@ static int need(Solver *solver, const Clause *clause, Identities *level_zero) {
 }
 
 // Collects the exact chain of the learnt clause, from its end: the conflict is the last hint, since
-// none may follow it. Before it come the reasons that analysis resolved, and those of literals that
-// minimisation removed, in the order of the trail, which is the order in which they become unit; so
-// we go back along the trail, and reverse the list. The reason of a literal in the learnt clause is
-// no hint: it would have no literal left, and be a conflict too early. The unit clauses of level 0
-// come first, in any order: they are unit at once.
+// no hint may follow it. Before it come the reasons that analysis resolved, and those of literals
+// that minimisation removed, in the order of the trail, which is the order in which they become
+// unit; so we go back along the trail, and reverse the list. The reason of a literal in the learnt
+// clause is no hint: all its literals would be false, so it would be a conflict too early. The unit
+// clauses of level 0 come first, in any order: they are unit at once.
 static void find_hints(Solver *solver, const Clause *conflict) {
     Identities *hints = &solver->hints, level_zero = {0};
     for (size_t k = 0; k < solver->learnt.length; k++)

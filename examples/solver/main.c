@@ -1,14 +1,14 @@
-// Unverified: several solvers that share clauses, and each write a stream for lrupd. An example,
+// Unverified: several solvers that share clauses and each write a stream for lrupd. An example,
 // not part of lrupd.
 //
 //     solver [--share LBD] [--imports] [--seed N] [--first S --streams N] [--progress] FORMULA STREAM...
 //
 // Each STREAM has a thread. The streams are 1, 2, .. of lrupd's command line; or, with --first and
-// --streams, S, S + 1, .. of N, and other processes write the rest. Clauses whose LBD is at most
-// that of --share (default 4; 0: none) are given to the other threads. With --imports a stream has
-// a line for each clause that its thread took over. Standard output has the size of each stream,
-// the answer, and for a satisfiable formula a checked assignment. The status is 20 if the formula
-// is refuted, 10 if it is satisfied, 1 if something failed.
+// --streams, S, S + 1, .. of N, and other processes write the rest. --share gives the largest LBD
+// of clauses that other threads get (default 4; 0: none). With --imports a stream has a line for
+// each clause that its thread took over. Standard output has the size of each stream, the answer,
+// and for a satisfiable formula a checked assignment. The status is 20 if the formula is refuted,
+// 10 if it is satisfied, 1 if something failed.
 #include <signal.h>
 #include <stdio.h>
 #include <stdlib.h>

@@ -105,7 +105,8 @@ static void watch(Solver *solver, Clause *clause) {
         PUSH(&solver->watches[clause->literals[k]], ((Watch){ clause, clause->literals[1 - k] }));
 }
 
-// Watches another literal instead of the second one, which is false; false if there is none.
+// Replaces the second watched literal, which is false, by another one that isn't; returns false if
+// the clause has no such literal.
 static bool watch_another(Solver *solver, Clause *clause) {
     for (unsigned k = 2; k < clause->length; k++) {
         Literal literal = clause->literals[k];
@@ -190,8 +191,8 @@ static void give(Solver *solver) {
     solver->gifts.length = 0;
 }
 
-// A clause of another solver keeps its identity, and needs no line here; an import states its
-// literals in the stream. A clause that is true at level 0 isn't taken over.
+// A clause of another solver keeps its identity, and needs no line here; with --imports, an import
+// states its literals in the stream. A clause that is true at level 0 isn't taken over.
 static Clause *take_over(Solver *solver, const Gift *gift) {
     for (unsigned k = 0; k < gift->length; k++)
         if (solver->values[gift->literals[k]] > 0) return NULL;
@@ -352,7 +353,7 @@ void solver_run(Solver *solver) {
     proof_close(&solver->proof);
 }
 
-// Each solver begins with another order of the variables, and other values.
+// Each solver begins with a different order of the variables, and with different values.
 void solver_open(Solver *solver) {
     size_t variables = (size_t)solver->portfolio->formula.variables;
     solver->random = (solver->portfolio->seed + 1) * 0x9E3779B97F4A7C15u + (uint64_t)solver->place * 0xBF58476D1CE4E5B9u;

@@ -89,7 +89,7 @@ typedef struct Solver {
     signed char *values;        // by literal: 1 true, -1 false, 0 open
     signed char *phases;        // by variable: its last value
     int *levels;                // by variable
-    // by variable: the clause that implied its value; none for decisions, and at level 0
+    // by variable: the clause that implied its value; NULL for decisions, and at level 0
     Clause **reasons;
     uint64_t *units;            // by variable: the identity of its unit clause at level 0
     // the true literals in order; for each level the trail's length before it

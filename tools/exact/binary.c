@@ -1,11 +1,11 @@
 // Unverified, like the whole filter. Reads binary DRAT and LRAT. A byte has seven bits of a number,
-// the lowest first; its eighth bit says that more follow. A literal is twice its variable, plus one
-// if negative. Lists end with 0.
+// the lowest first; its eighth bit says whether more follow. A literal is twice its variable, plus
+// one if negative. Lists end with 0.
 //
 //     a literals                 an addition of DRAT          a id literals hints     of LRAT
 //     d literals                 a deletion of DRAT           d ids                   of LRAT
 //
-// An engine that shares clauses writes DRAT with three more steps:
+// An engine that shares clauses writes DRAT with three more kinds of steps:
 //
 //     i engine position literals     it took over the clause that ENGINE gave away at POSITION
 //     r engine position              it won't take over what ENGINE gave away before POSITION

@@ -22,7 +22,7 @@
 #include "row.h"
 #include "write.h"
 
-enum { LONGEST_PATH = 4096, LONGEST_NAME = 64, PAUSE = 5 };     // milliseconds
+enum { LONGEST_PATH = 4096, LONGEST_NAME = 64, PAUSE = 5 };     // PAUSE: milliseconds
 enum { USUAL_LINES = 65536 };  // lrupd's default in round 1; the room never exceeds lrupd's default
 #define OF_A_ROUND "round-"
 #define ANOTHER_FILE "another file is in its place"
@@ -74,7 +74,7 @@ static void name_file(char path[LONGEST_PATH], const char *what) {
              (unsigned long long)round_number, what);
 }
 
-// The sizes come first: lrupd reads them as soon as the stream exists.
+// The file of sizes is made first: lrupd reads it as soon as the stream exists.
 static void make_files(void) {
     char text[LONGEST_NAME];
     int length = snprintf(text, sizeof text, "1 %llu %llu\n", (unsigned long long)rows.row.lines,

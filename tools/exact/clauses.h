@@ -59,7 +59,7 @@ void clauses_keep_set(Clauses *clauses, ClauseRef ref);
 ClauseRef clauses_take_set(Clauses *clauses, const Literal *literals, size_t length,
                            const unsigned char *marks);
 void clauses_delete(Clauses *clauses, ClauseRef ref);
-// the next clause that isn't deleted, or 0; after 0 the first
+// the next clause that isn't deleted, or 0; after 0, the first one
 ClauseRef clauses_after(const Clauses *clauses, ClauseRef ref);
 void clauses_age(Clauses *clauses);
 // moves the clauses to a new row, except deleted ones; returns the old row

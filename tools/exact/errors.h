@@ -16,7 +16,7 @@ void position_set(const char *unit, uint64_t number);
 // the message begins with the position
 _Noreturn void stop(const char *cause, ...) __attribute__((format(printf, 1, 2)));
 _Noreturn void fail(const char *cause, const char *object);  // without the position
-_Noreturn void fail_file(const char *path, const char *cause);  // 'PATH: CAUSE', likewise
+_Noreturn void fail_file(const char *path, const char *cause);  // 'PATH: CAUSE', no position
 
 #ifdef __cplusplus
 }

@@ -18,9 +18,9 @@ static void make_known(Filter *filter, ClauseRef ref) {
     if (!filter->frat) clauses_keep_set(&filter->clauses, ref);
 }
 
-// In FRAT the proof names the formula's clauses; otherwise their order does. Of `formula` only the
-// two counts are kept. LRAT's identities aren't used in rounds, since gaps between them would count
-// towards the row's lines.
+// In FRAT, the proof names the formula's clauses; otherwise their order does. Of `formula`, only
+// the two counts are kept. LRAT's identities aren't used in rounds, since gaps between them would
+// count towards the row's lines.
 void filter_open(Filter *filter, bool frat) {
     Formula *formula = &filter->formula;
     Literals *literals = &filter->literals;
@@ -126,8 +126,8 @@ uint64_t filter_next_identity(const Filter *filter) {
     return identity;
 }
 
-// The stream's next identity; or LRAT's own, if there is only one stream or other streams may cite
-// the clause.
+// The stream's next identity; or the identity that LRAT gives, if there is only one stream or other
+// streams may cite the clause.
 static uint64_t new_identity(const Filter *filter, const Addition *addition) {
     int64_t formula = (int64_t)filter->formula.clauses, name = addition->name;
     if (addition->named && filter->keeps_identities && !filter->frat) {
@@ -141,7 +141,7 @@ static uint64_t new_identity(const Filter *filter, const Addition *addition) {
 }
 
 // Whether lines that the proof doesn't have can get identities. LRAT streams that may cite each
-// other have none to spare.
+// other have no identities to spare.
 static bool has_identities(const Filter *filter, const Addition *addition) {
     bool is_alone = (filter->hooks || filter->streams == 1) && filter->others.length == 0;
     return !addition->named || filter->frat || is_alone ||
@@ -183,8 +183,8 @@ static void write_addition(Filter *filter, const Addition *addition, Found found
     write_line(filter);
 }
 
-// Adds the clause's literals, except the pivot's complement, to those of the step. False if, for
-// another variable, too, the clause has a literal and the step has the complement.
+// Adds the clause's literals, except the pivot's complement, to those of the step. False if the
+// clause has the complement of another literal of the step, too.
 static bool resolve(Filter *filter, const Clause *clause, Literal complement) {
     for (unsigned k = 0; k < clause->length; k++) {
         Literal literal = clause->literals[k];
@@ -351,7 +351,7 @@ static void write_import(uint64_t identity, const int64_t *literals, size_t leng
     write_bytes("0\n", 2);
 }
 
-// From now on steps may use the clause.
+// From now on, steps may use the clause.
 void filter_import(Filter *filter, int64_t identity, const int64_t *literals, size_t length) {
     int64_t formula = (int64_t)filter->formula.clauses;
     if (filter->hooks && filter->others.length == 0)
@@ -520,7 +520,7 @@ static void identities_check(const Filter *filter) {
 }
 
 void filter_check(const Filter *filter) {
-    static size_t taken;        // by steps since the last check
+    static size_t taken;        // words: WORDS_OF_A_STEP for each step since the last check
     if ((taken += WORDS_OF_A_STEP) < filter->clauses.used + (size_t)filter->formula.variables ||
         filter->refuted)
         return;

@@ -15,8 +15,8 @@ enum { NONE = -1 };
 _Static_assert((int)MOST_NEEDED <= (int)LITERALS_OF_A_LINE,
                "a lemma has as many literals as a clause may need");
 
-// The end of a conflict's chain, from a position on the trail: its hints, and those literals from
-// before the position that it needs, and that a lemma would have. `met` counts the clause's own
+// The end of a conflict's chain, from a position on the trail: its hints, and the literals that it
+// needs from before that position, which a lemma would have. `met` counts the clause's own
 // literals, `open` the others, and `marked` the variables marked so far.
 typedef struct { size_t position, hints, open, met, marked; } Cut;
 
@@ -66,8 +66,8 @@ static ClauseRef write_shorter(Filter *filter, ClauseRef ref) {
     return shorter;
 }
 
-// Removes as many false literals from the clause as a line has hints for. Each of them has a lemma.
-// The literal of `own` is true, and stays.
+// Removes as many false literals from the clause as a line has hints for. Each removed literal has
+// a lemma. The literal of `own` is true, and stays in the clause.
 static ClauseRef shorten(Filter *filter, ClauseRef ref, int own) {
     Propagation *propagation = &filter->propagation;
     const Clause *clause = clause_at(&filter->clauses, ref);
@@ -106,9 +106,9 @@ static void extend(Filter *filter, ClauseRef ref, Cut *cut) {
     cut->marked = propagation->marked.length;
 }
 
-// The best cut has the fewest literals per hint. It has more than half of a line's hints, and at
-// most MOST_NEEDED literals. So a chain's lemmas have at most twice as many literals as the chain
-// has hints, and few clauses are visited twice.
+// The best cut has the fewest literals per hint. It has more than half of the hints that a line may
+// have, and at most MOST_NEEDED literals. So a chain's lemmas have at most twice as many literals
+// as the chain has hints, and few clauses are visited twice.
 static bool is_better(const Cut *cut, const Cut *best) {
     size_t literals = cut->open + cut->met;
     if (cut->hints <= IDENTITIES_OF_A_LINE / 2 || literals > MOST_NEEDED) return false;

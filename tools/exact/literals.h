@@ -23,7 +23,7 @@ static inline int as_written(Literal literal) {
 
 typedef LIST_OF(Literal) Literals;
 
-// removes repeated ones; returns how many are left
+// also removes repeated literals; returns how many are left
 size_t literals_sort(Literal *literals, size_t length);
 // whether one of these sorted literals is the complement of another
 bool literals_clash(const Literal *literals, size_t length);

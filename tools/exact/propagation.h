@@ -33,7 +33,7 @@ typedef struct {
     ClauseRef conflict;         // at the root; 0: none
     Literals marked;            // the variables whose marks have to be reset
     Positions needed;           // of the literals that a clause depends on
-    Positions missing;          // of root literals that a chain needs and no unit clause has
+    Positions missing;          // of root literals that a chain needs but that lack unit clauses
 } Propagation;
 
 void propagation_open(Propagation *propagation, Clauses *clauses, int variables);

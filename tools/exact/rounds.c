@@ -22,8 +22,8 @@ static void mark(const Filter *filter, unsigned char *marks, uint64_t identity) 
 }
 
 // Deletes the clauses of the formula and of the stream, except those that are spared, those in
-// `kept` and, if another round follows, those that the filter has. The stream has deleted none of
-// them before.
+// `kept` and, if another round follows, those that the filter has. The stream hasn't deleted any of
+// these clauses before.
 void round_delete(Filter *filter, const Identities *kept, bool goes_on) {
     uint64_t formula = filter->formula.clauses, first = formula + filter->stream;
     uint64_t own = filter->last ? (filter->last - first) / filter->streams + 1 : 0;
@@ -39,7 +39,7 @@ void round_delete(Filter *filter, const Identities *kept, bool goes_on) {
     filter_write_deletion(filter);
 }
 
-// How many clauses a run saves if `kept` was empty and the stream ends after these deletions.
+// How many clauses a run saves if the stream ends after `round_delete` with an empty `kept`.
 uint64_t round_clauses(const Filter *filter, uint64_t *literals) {
     uint64_t count = 0;
     *literals = 0;

@@ -19,7 +19,7 @@ typedef struct {
     Numbers numbers;
     size_t zeros, first_zero;       // how many words are "0", and the index of the first
     const unsigned char *zero;      // in a plain line: the byte of the first "0"
-    bool garbled, strange;  // has words that are neither numbers nor letters; that aren't numbers
+    bool garbled, strange;  // has words that aren't numbers or letters; words that aren't numbers
     bool plain;                     // single spaces, no leading zeros
 } Words;
 

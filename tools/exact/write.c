@@ -9,7 +9,7 @@
 #include "lists.h"
 #include "write.h"
 
-// bytes of a number with sign and separator; of the first buffer
+// the bytes of a number with sign and separator; the bytes of the first buffer
 enum { LONGEST = 24, PIECE = 1 << 16 };
 
 static LIST_OF(char) buffer;

@@ -120,7 +120,7 @@ FormFault form_fault(const Stream *stream, Line *line, bool *is_whole);
 typedef struct {
     Identities hints;
     bool is_found;
-    size_t true_literals, open_clauses;     // if none is found
+    size_t true_literals, open_clauses;     // if no chain is found
 } Chain;
 
 // also: a deleted clause that may be cited nevertheless, or 0

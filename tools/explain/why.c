@@ -119,7 +119,7 @@ static bool next_addition(const Stream *stream, unsigned char **at, Reading *rea
 }
 
 // The greatest common divisor of the differences between the stream's identities; 0 if there are
-// fewer than three identities, since the difference of two may be chance.
+// fewer than three identities, since the difference between two may be chance.
 static uint64_t step_of(const Stream *stream) {
     uint64_t step = 0, last = 0, count = 0;
     Reading reading;
@@ -174,7 +174,8 @@ static void tell_right_identity(const Replay *replay, const Stream *stream) {
     }
 }
 
-// Prints which --lines is enough for the line's identity, and which for all of the stream's own.
+// Prints which number after --lines is enough for the line's identity, and which is enough for all
+// of the stream's own identities.
 static void tell_lines_of(const Replay *replay, const Stream *stream, uint64_t identity) {
     uint64_t greatest = identity;
     Reading reading;
@@ -246,7 +247,7 @@ static void why_tautology(const Replay *replay) {
     }
 }
 
-// How many literals, as written, the stream's well-formed lines derive.
+// How many literals, as written, the clauses of the stream's well-formed additions have in all.
 static uint64_t literals_of_stream(const Stream *stream) {
     uint64_t literals = 0;
     Reading reading;

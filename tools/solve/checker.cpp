@@ -23,7 +23,8 @@ const uint64_t TRIES = 1000000;     // a stream waits up to a minute for another
 const int FRONTS_WORDS = 3;
 const size_t BLOCK = 4096;          // of a message to the front; the system writes it whole
 
-// the first of two fields in /proc/PID/stat: for the process; for its ended children
+// indices of fields in /proc/PID/stat, each the first of two: a process's own processor time, and
+// that of its ended children
 const int OWN_TIME = 14, TIME_OF_CHILDREN = 16;
 
 double processor_time(int pid, int first_field) {
@@ -106,7 +107,7 @@ bool Front::has_refused() const {
     return probe.child.ended() && WIFEXITED(probe.child.status) && !probe.child.ended_with(UNKNOWN_STATUS);
 }
 
-// The front's children are the supervisor, which takes no time, and each lrupd.
+// The front's children are the supervisor, which uses no processor time, and each lrupd.
 double Front::checking() const {
     std::string id = std::to_string(pid);
     std::ifstream children("/proc/" + id + "/task/" + id + "/children");

@@ -20,7 +20,7 @@ public:
     bool has_opened(std::string &path);     // the first path asked for; the opener waits for go_on
     void go_on();
     void end();
-    pollfd says() const { return { socket, POLLIN, 0 }; }   // for when something was opened
+    pollfd says() const { return { socket, POLLIN, 0 }; }   // to wait until something was opened
 
 private:
     int socket = -1;
@@ -37,14 +37,14 @@ public:
     Opener opener;
     std::string report, said;           // its lines on standard output, and on standard error
     bool keeps_digests = false;
-    // of each round's sizes, and of each finished stream, as by sha256sum
+    // of each round's sizes, and of each finished stream, as sha256sum prints them
     std::vector<std::string> digests;
 
-    void expect(const std::string &path);   // it runs, or will run; path: the file with its output
+    void expect(const std::string &path);   // lrupd runs, or will; path: the file with its output
     // asks the front to start it; round 1 reads these files
     void start(Row row, const std::vector<int> &files);
     bool was_killed() const;                // a signal has ended it
-    void renew();                           // call after that; then another lrupd may be started
+    void renew();                           // call if it was killed; then another lrupd may start
 
     // Call expect_round before a round's streams end, with the beginning of the names that the next
     // round's files have in lrupd's folder. Once lrupd has saved the round, begin_round gives it
@@ -54,7 +54,7 @@ public:
     void begin_round(Row row, const std::vector<int> &files);
 
     void look();                        // looks whether lrupd has opened something
-    std::vector<pollfd> full_pipes() const;     // for when they have room
+    std::vector<pollfd> full_pipes() const;     // to wait until they have room
     // feeds the file up to this byte; true once all of that has been fed
     bool feed(size_t stream, uint64_t bytes, bool drop);
     // this file has the stream's next bytes
@@ -76,7 +76,7 @@ private:
         uint64_t fed = 0, dropped = 0;
         std::string name = "";          // without its folder
         Digest digest = {};
-        bool has_digest = false;        // among `digests`
+        bool has_digest = false;        // `digests` has its digest
     };
 
     std::vector<Stream> streams;
@@ -106,7 +106,7 @@ struct Front {
     void say(const std::string &line) const;            // cut if it is too long
     void read_on(Checker *checker);                     // reads what it reports
     bool has_refused() const;                           // its probe has refused the formula
-    double checking() const;                            // processor time of each lrupd, in seconds
+    double checking() const;                            // processor time of all lrupds, in seconds
     std::string await_refusal(double deadline);         // lrupd's words; empty if it doesn't refuse
 
 private:

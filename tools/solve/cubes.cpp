@@ -10,7 +10,7 @@ namespace {
 const uint64_t LEARNING = 1000;         // conflicts of the first engine before cubes are made
 const double BUMP = 1.0005;
 
-// The index after that of this host's last engine that takes clauses over; the first index is 0.
+// One more than the index (from 0) of this host's last engine that takes over clauses.
 int end_of_engines(const Shared &shared, const Options &options) {
     return std::min(shared.first_here + shared.engines_here,
                     options.engines - int(options.solvers.size()));

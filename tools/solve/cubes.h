@@ -4,9 +4,10 @@
 // Each of these assumes the literals of a cube. What it learns doesn't depend on them, and is given
 // away as usual; the clause that refutes a cube is a clause like any other. So nothing in proofs is
 // about cubes. The first engine stays on the whole formula, since a cube may be as hard as the
-// formula. After some conflicts it chooses the variables that cubes are made of, and all engines
-// keep these variables. The first process deals cubes out: an idle engine gets the cube of a lost
-// engine, or half of the oldest cube. Before its first cube, an engine works on the whole formula.
+// formula. After some conflicts this engine chooses the variables that cubes are made of, and all
+// engines keep these variables. The first process deals cubes out: an idle engine gets the cube of
+// a lost engine, or half of the oldest cube. Before its first cube, an engine works on the whole
+// formula.
 //
 // If the user gives cubes, all engines first take these, one after the other, and no engine
 // eliminates their variables.
@@ -33,7 +34,7 @@ public:
     void count_conflict();
     void count_literal(int literal) { scores[size_t(std::abs(literal))] += bump; }
     bool is_idle() const { return idle == 1; }  // it has just refuted a cube, and gets another soon
-    // call after a slice; gone: by variable, from 1: eliminated
+    // call after a slice; gone: whether a variable (index: from 1) was eliminated
     void look(const std::vector<unsigned char> &gone);
     bool is_refuted() const;            // after status 20: only the cube, not the formula
     void tell_refuted();                // once the clause is given away
@@ -45,7 +46,7 @@ private:
     const bool takes;
     int idle;                           // calls of `look` until it isn't idle any more
     Cube literals;
-    // the cube's number; bits: variables of cubes that are frozen here
+    // the cube's number; a bit for each variable of cubes, set if it is frozen here
     uint64_t number = 0, kept = 0;
     std::vector<double> scores;  // by variable, from 1: how often and how recently it was learned
     double bump = 1;

@@ -217,7 +217,7 @@ private:
 
     // Taking over.
 
-    // When one half is full, the older half is forgotten, so a clause may be taken twice.
+    // When the newer set of hashes is full, the older is forgotten: a clause may be taken twice.
     bool is_new(const Literal *literals, size_t length) {
         uint64_t sum = hash_literals(literals, length);
         if (known.size() >= MOST_KNOWN) known_before = std::move(known), known.clear();

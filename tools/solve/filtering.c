@@ -33,7 +33,7 @@ static bool in_memory;              // the stream is in memory, although there i
 // Errors. The first process reports the cause once this one has ended.
 
 static _Noreturn void leave(const char *cause) {
-    bool over = LOAD(own->shared->over);        // then the engine was killed within a step
+    bool over = LOAD(own->shared->over);        // if so, the engine was killed within a step
     if (cause && !over) snprintf(engine_status->cause, sizeof engine_status->cause, "%s", cause);
     engine_status->proof_ended = input.ended;
     _exit(cause && !over);
@@ -87,9 +87,9 @@ static void spill(const char *bytes, size_t length) {
 }
 
 // Whole lines go to the stream's file, which outlives this process. Only then do others see the
-// clauses that they derive: otherwise a filter that dies with lines in its buffer would leave
-// clauses that others cite and lrupd never gets. A slow lrupd slows filters down, and they slow
-// engines down, so a stream never takes much memory.
+// clauses that these lines derive: otherwise a filter that dies with lines in its buffer would
+// leave clauses that others cite and lrupd never gets. A slow lrupd slows filters down, and they
+// slow engines down, so a stream never takes much memory.
 static void out(const char *bytes, size_t length) {
     if (!write_whole(own->stream, bytes, length)) spill(bytes, length);
     STORE(engine_status->bytes, engine_status->bytes + length);

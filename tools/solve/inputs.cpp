@@ -24,7 +24,7 @@ const int LONGEST_NUMBER = 21;
 
 const Inputs *the_inputs;
 
-// A thread reads the formula, and then writes to the file; a fault ends the run. The thread may
+// A thread reads the formula, and then signals `read_file`; a fault ends the run. The thread may
 // find a fault before the main thread knows that the thread has started.
 thread_local bool is_reader = false;
 int read_file = -1;

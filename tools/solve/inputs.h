@@ -20,7 +20,7 @@ public:
     std::string digests;                        // of both files, a line each, for the record
 
     explicit Inputs(const Options &given);
-    void find();                                // their paths; opens the folder of --proofs
+    void find();                                // the inputs' paths; opens the folder of --proofs
     using Meanwhile = std::function<void(int file)>;    // runs until the file can be read
     void read(const Meanwhile &meanwhile);
     void read_formula();

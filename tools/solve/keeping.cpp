@@ -260,7 +260,7 @@ void Keeping::explain(const std::string &report, const Wait &wait) const {
     for (const std::string &line : lines_of(said)) display.tell_more(line);
 }
 
-// Whether a clause that doesn't follow would follow if no clause had been deleted before it.
+// Says whether a clause that doesn't follow would follow if no clause had been deleted before it.
 std::string Keeping::explain_proof(const std::string &cause, const std::string &path, const Wait &wait) const {
     std::string program = find_tool("lrup-exact"), said, line = "exec \"$@\" > /dev/null";
     if (program.empty() || cause.find("doesn't follow from those") == std::string::npos || !is_read_again(path)) return "";

@@ -25,7 +25,7 @@ public:
     std::string keep(bool is_proved, const std::string &lost, const Wait &wait) const;
     std::string describe(const Checker &checker, uint64_t rounds, const Wait &wait) const;
     void explain(const std::string &report, const Wait &wait) const;
-    // what to add to the cause
+    // returns what to add to the cause
     std::string explain_proof(const std::string &cause, const std::string &path, const Wait &wait) const;
 
 private:

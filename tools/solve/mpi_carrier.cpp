@@ -3,8 +3,8 @@
 // contents.
 //
 // Only MPI_Init, the broadcast before engines start, and MPI_Finalize wait for other processes; if
-// one dies, mpirun ends all. The bytes on their way to others are bounded: above the bound nothing
-// more is read from the Run.
+// a process dies, mpirun ends all. The bytes on their way to others are bounded: above the bound
+// nothing more is read from the Run.
 #define OMPI_SKIP_MPICXX 1      // leaves out C++ bindings that cause warnings
 #include <mpi.h>
 
@@ -134,7 +134,7 @@ private:
                   MPI_COMM_WORLD, &one.request);
     }
 
-    // A deque doesn't move its items.
+    // A deque doesn't move its items, whose bytes MPI may still be sending.
     bool send_on() {
         bool any = false;
         for (int done = 1; !flying.empty() && done;) {

@@ -224,7 +224,7 @@ private:
 
     void say() {
         Control words = control();
-        // if the next round has begun before this, no filter elsewhere is left
+        // if the next round has already begun, no filter elsewhere is left
         bool is_due = words.saved_round > told_saved && words.saved_round == words.round;
         if (is_due) say_saved(), told_saved = words.saved_round;
         if (!is_news(words, told) && now() - told_at < PULSE) return;

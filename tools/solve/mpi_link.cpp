@@ -11,7 +11,7 @@
 namespace {
 
 const int MESSAGE_PIPE = 1 << 20;
-const size_t MOST_WAITING = 1 << 22;            // bytes; above it streams wait for room
+const size_t MOST_WAITING = 1 << 22;            // bytes; if more wait, streams wait for room
 const double STARTING = 120;                    // seconds for all processes together
 
 }
@@ -105,7 +105,7 @@ std::vector<pollfd> Link::files() const {
     return list;
 }
 
-// The carrier ends once the carriers of all processes leave.
+// The carrier ends once every process has told its carrier to leave.
 void Link::leave() { send(LEAVE, 0, ""); }
 
 void Link::close() {

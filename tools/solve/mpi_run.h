@@ -17,8 +17,8 @@
 
 #include "run.h"
 
-// Messages. A carrier handles INPUT, GIFTS and LEAVE itself, and forwards those for other
-// processes.
+// Messages. A carrier handles INPUT, GIFTS and LEAVE itself, and forwards the Run's other messages
+// to their processes.
 enum Word : uint32_t {
     HELLO,          // from the carrier: the processes, and how many engines each has
     INPUT,          // from process 0 to all: a piece of what is read first; an empty one is the end
@@ -70,7 +70,7 @@ private:
 };
 
 void append_message(std::string &bytes, uint32_t word, int process, const std::string &text);
-// how much is written; all, unless the file is full
+// returns how much it has written: all, unless the file is full
 size_t write_some(int file, const std::string &bytes, size_t from);
 
 // mpi_carrier.cpp: doesn't return. `engines`: how many are here.
@@ -115,7 +115,7 @@ public:
     Traffic traffic = {};
 
     void open(Shared *all, const std::vector<uint32_t *> &boxes);
-    // the lines of clauses before that position have been sent
+    // the lines of the clauses before position `used` have been sent
     void clear(int engine, uint64_t used) { cleared[size_t(engine)] = used; }
     std::string collect();              // what was given away since the last time
     // it has collected in this round
@@ -141,7 +141,7 @@ struct Ended { int32_t ended, status; double seconds; };
 enum { ENDED_ROUND = 16, MAPPED_ROUND, COUNTS };        // indices of two counts
 
 struct Facts {
-    int32_t engine, answer, refuted, unwritten;         // the engine from 0
+    int32_t engine, answer, refuted, unwritten;         // engines count from 0
     Ended of_engine, of_filter;
     uint64_t counts[COUNTS];
     char cause[LONGEST_CAUSE];
@@ -192,8 +192,8 @@ int follow(const Options &options, Link &link);     // mpi_follower.cpp
 extern uint64_t EngineStatus::*const COUNTED[COUNTS];
 
 const double SILENCE = 8;               // seconds after which a process counts as dead
-const double PULSE = 0.25;              // seconds after which something is sent at the latest
-// TCP takes such a piece at once, without asking the other side
+const double PULSE = 0.25;              // seconds: something is sent at least this often
+// TCP takes a piece of this size at once, without asking the other side
 const size_t PIECE_OF_A_STREAM = 1 << 15;
 const size_t PIECE_OF_INPUT = 1 << 20;
 const uint64_t WINDOW = UINT64_C(1) << 22;      // bytes of a stream that lrupd hasn't got yet

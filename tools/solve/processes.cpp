@@ -197,8 +197,8 @@ std::string Child::end() const {
     return "ended with status " + std::to_string(WEXITSTATUS(status));
 }
 
-// A child that forwards signals gets SIGTERM instead of SIGKILL, and SIGTSTP instead of SIGSTOP,
-// which can't be caught. While it starts, SIGTSTP stops it, so SIGCONT follows SIGTERM.
+// A child that forwards signals gets SIGTERM and SIGTSTP instead of SIGKILL and SIGSTOP, which
+// can't be caught. While it starts, SIGTSTP stops it, so SIGCONT follows SIGTERM.
 static void send(pid_t pid, int number, bool hands_on) {
     if (hands_on) number = number == SIGKILL ? SIGTERM : number == SIGSTOP ? SIGTSTP : number;
     kill(pid, number);

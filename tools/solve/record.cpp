@@ -234,7 +234,7 @@ std::string one_line(const std::string &text) {
     return line;
 }
 
-// Empty if the path isn't known: one that this process can't see doesn't begin with a slash.
+// Empty if the path isn't known: a path that this process can't see doesn't begin with a slash.
 std::string own_path() {
     char path[LONGEST_PATH];
     ssize_t length = readlink("/proc/self/exe", path, sizeof path);
@@ -373,7 +373,7 @@ int open_in_record(const std::string &name) {
     return openat(record_folder, name.c_str(), O_RDONLY | O_NOFOLLOW | O_NONBLOCK | O_CLOEXEC);
 }
 
-// Removes the files for resuming the run, since it has its proof now.
+// Removes the files for resuming the run, which has a proof and needs them no longer.
 void remove_checkpoints(const std::string &folder) {
     std::set<std::string> left;
     for (const std::string &name : listed) {

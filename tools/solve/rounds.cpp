@@ -47,8 +47,8 @@ bool Rounds::size(uint64_t clauses, uint64_t literals) {
     return fits;
 }
 
-// Whatever --memory says, a row may have twice the formula's size. A resumed run's row is as large
-// as before.
+// Whatever --memory says, a row may be twice as large as the formula. A resumed run's row is as
+// large as before.
 void Rounds::begin(const std::string &program) {
     uint64_t clauses = inputs.first_formula.clauses, literals = literals_of(inputs.first_formula), last = inputs.saved.count();
     number = last + 1;
@@ -130,7 +130,7 @@ std::string Rounds::command_of(Row sizes, const std::string &folder) const {
 size_t Rounds::first_streams() const { return ended.count() > 0 ? ended.streams(1) : teams.size(); }
 
 // Checks all rounds, even if the record has moved: each input is first looked for at its path
-// relative to the record. Names are values of variables, and occur nowhere else. lrupd reads the
+// relative to the record. Names occur only as values of the script's variables. lrupd reads the
 // same open files whose digests are checked. In rounds, lrupd also writes files, so it runs in a
 // new folder with links to the record's files; a packed stream comes through a pipe.
 static const char CHECK_AGAIN[] = R"sh(
@@ -305,7 +305,7 @@ bool Rounds::may_check_again() {
     return inputs.options.record && teams.lost.empty() && starts < MOST_STARTS;
 }
 
-// Not called while filters read what the killed lrupd has saved. What it was saving is saved again.
+// Not called while filters read what the killed lrupd has saved. An unfinished save is repeated.
 std::string Rounds::check_again() {
     const std::string missing = ended.missing();
     if (!missing.empty()) return ", and " + missing + " is gone";
@@ -379,7 +379,7 @@ std::string Rounds::end_record(const std::string &path) {
     return cause + NOT_RESUMED;
 }
 
-// lrupd has saved the round's clauses, as it did for the earlier run.
+// Call once lrupd has again saved the clauses of a round that had ended.
 void Rounds::begin_next() {
     for (int &file : saved_streams) close_file(file);
     checked++;

@@ -20,19 +20,19 @@ public:
 
     State state = OPEN;
     uint64_t number = 1;
-    uint64_t checked = 0;               // lrupd's round; below `number`: an earlier run's; 0: none
+    uint64_t checked = 0;               // lrupd's round; below `number`: one that ended; 0: none
     Saver saver;
     uint64_t lines_before = 0;          // of earlier rounds
     double paused = 0;                  // seconds in all
     Rows rows = {};
-    Checkpoint saved = {};              // by the last round, while filters take the identities
+    Checkpoint saved = {};              // the last round's, while filters take its identities
 
     Rounds(const Inputs &its_inputs, Teams &its_teams, Checker &its_checker, const Display &its_display)
         : inputs(its_inputs), teams(its_teams), checker(its_checker), display(its_display) {}
     void begin(const std::string &program);     // lrupd's path
     std::string beginning() const;              // a message about a resumed run
     bool may_check_again();                     // whether another lrupd may replace a killed one
-    std::string check_again();                  // starts it; returns why it can't, or ""
+    std::string check_again();                  // starts that lrupd; returns why it can't, or ""
     std::string look();                         // returns why the run can't continue, or ""
     std::string feed(bool is_last);             // feeds lrupd; returns why it can't, or ""
     bool is_behind() const { return checked < number; }     // lrupd reads rounds that have ended
@@ -50,14 +50,14 @@ private:
     const Display &display;
     std::string checker_program, said;
     int starts = 0;                             // of lrupd, since it last saved a new round
-    SavedRounds ended;                          // before `number`: lrupd gets them again
+    SavedRounds ended;                          // those before `number`, which lrupd gets again
     Row first = {};                             // of round 1
     std::vector<int> saved_streams;             // of the saved round that lrupd is in; their sizes
     std::vector<uint64_t> saved_bytes;
     size_t compared = 0;                        // how many of the checker's digests
     uint64_t literals_before = 0;
     double pause_begun = 0, begun = now();      // when the last pause and the round began
-    bool is_full = false;                       // the row, so the round ends
+    bool is_full = false;                       // the row is full, so the round ends
     bool ends_here = false;                     // the run ends with this round
     uint64_t next = 0;                          // a resumed run's first round, if it is saved
     bool has_told_loss = false;

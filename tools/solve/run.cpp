@@ -178,7 +178,7 @@ void Run::look_at_teams() {
     if (!any_has_begun) unstarted = "nothing could run: " + teams[0].cause;
 }
 
-// The proof is there once the filter has written its last line, whatever the engine says.
+// The proof is complete once the filter has written its last line, whatever the engine says.
 void Run::look_at_team(size_t k) {
     Team &team = teams[k];
     EngineStatus &facts = teams.engine_status(k);
@@ -198,7 +198,7 @@ void Run::look_at_team(size_t k) {
     if (phase != SOLVING || team.told || said == SATISFIABLE) return;
     bool both_ended = team.engine.ended() && team.filter.ended_with(0);
     if (look_at_end(k) || !team.filter.ended() || !(both_ended || !team.filter.ended_with(0))) return;
-    if (facts.proof_ended && team.engine.running) return;       // it held the proof open, and ends
+    if (facts.proof_ended && team.engine.running) return;       // the engine ends soon, too
     std::string end = facts.cause[0] ? std::string("stopped: ") + facts.cause : team.filter.end();
     tell_lost(k, inputs.options.check && facts.cause[0] ? facts.cause : end_before(k) + "its filter " + end);
     team.engine.signal(SIGKILL);

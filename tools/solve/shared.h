@@ -39,41 +39,41 @@ typedef struct {
     // the end of a solver's standard error; read it once it has ended
     char last_words[LONGEST_CAUSE];
     int ready;                  // it has frozen the variables of cubes
-    uint64_t usable;            // bits: the open variables that it hadn't eliminated before
+    uint64_t usable;            // bits: the variables of cubes that it froze, and that are open
     uint64_t refuted_cube;      // the number of the last cube that it refuted
     uint64_t refuted_cubes;
     // The filter writes:
     uint64_t lines, literals, hints, given;                     // of all rounds
-    // lines that cite another stream; that cite another host's
+    // lines that cite another stream; lines that cite a stream of another host
     uint64_t citing_others, citing_elsewhere;
     uint64_t round_lines, round_literals;                       // of this round
     uint64_t bytes;             // of its stream
     uint64_t behind;            // bytes of the proof that it hasn't read
     uint64_t outbox_used;       // others may read its outbox up to this position
-    uint64_t floors[MOST_ENGINES];  // by engine, from 0: its earlier gifts aren't needed any more
-    uint64_t wanted;            // the length of a clause for which a whole stream has no room
+    uint64_t floors[MOST_ENGINES];  // by engine, from 0: earlier gifts aren't needed any more
+    uint64_t wanted;            // the length of the last clause for which its stream had no room
     uint64_t held;              // words of the clauses that it held when its last round ended
     uint64_t ended_round;       // the last round whose stream it has finished
     uint64_t mapped_round;      // its clauses have the identities of the round after this one
     int refuted;                // its stream has the line that proves the goal
     int unwritten;              // the stream couldn't be written
     int spilled;                // the record couldn't be written: the stream continues in memory
-    uint64_t kept;              // bytes of the stream that the record has then
-    char unkept[LONGEST_CAUSE]; // why the record hasn't more
+    uint64_t kept;              // bytes of the stream that the record then has
+    char unkept[LONGEST_CAUSE]; // why the record doesn't have more
     char cause[LONGEST_CAUSE];  // why the filter stopped; read it once the filter has ended
     int proof_ended;            // when it ended, it had read the whole proof
     // The first process writes:
     uint64_t stream;            // its number in this round, or in the next; 0: it has none
     uint64_t fed;               // bytes of its stream that lrupd has got
     int gone;                   // the filter has ended
-    EventCount events;          // for the filter: when the first process writes here or below
+    EventCount events;          // for the filter: the first process has written here or in Shared
     uint64_t cube_number;       // of its last cube; 0: none, or one is being written
     int cube_of_file;           // a user's cube (1: the first), plus these literals; 0: only these
     int cube_length, cube[MOST_OF_A_CUBE];
 } EngineStatus;
 
-// The first process writes everything except the engines' statuses, and the variables of cubes,
-// which the host's first engine writes.
+// The first process writes everything except the engines' statuses and the variables of cubes. The
+// host's first engine writes those variables.
 typedef struct {
     int engines;
     int first_here, engines_here;       // from 0; the others are on other hosts
@@ -99,11 +99,11 @@ typedef struct {
 #define LOAD(field) __atomic_load_n(&(field), __ATOMIC_ACQUIRE)
 #define STORE(field, value) __atomic_store_n(&(field), (value), __ATOMIC_RELEASE)
 
-// An outbox has the clauses that a filter gives away, one after the other: the number of literals,
-// with a mark if the clause refutes a cube, the identity, and the literals. It is a ring: positions
-// increase forever, and a gift is at its position modulo the ring's size. A gift that would cross
-// the end begins at the ring's start, and a word marks the gap. The identity changes from round to
-// round; the position names the gift.
+// An outbox has the clauses that a filter gives away, one after the other. Each has the number of
+// its literals (with a mark if it refutes a cube), its identity, and its literals. The outbox is a
+// ring: positions increase forever, and a gift is at its position modulo the ring's size. A gift
+// that would cross the end begins at the ring's start, and a word marks the gap. The identity
+// changes from round to round; the position names the gift.
 enum { OUTBOX_WORDS = 1 << 20, HEAD_OF_A_GIFT = 2 };
 #define TO_THE_BEGINNING UINT32_MAX
 #define OF_A_CUBE (UINT32_C(1) << 31)

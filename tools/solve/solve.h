@@ -18,10 +18,10 @@ extern const char *program_name;         // options.cpp
 struct Options {
     int engines = 0;            // 0: half of the cores; solvers are added later
     bool check = false;         // lrup-check: solvers are existing proofs
-    // commands, or paths of proofs: the last engines, which share nothing
+    // commands, or paths of proofs; they become the last engines, which share nothing
     std::vector<const char *> solvers;
     double seconds = 0;         // for the run; 0: no limit
-    // bytes of lrupd's row: the usual and the largest size; 0: chosen from the machine's memory
+    // bytes of lrupd's row: the usual and the largest size; 0: depends on the machine's memory
     uint64_t memory = 0, most_memory = 0;
     int share_size = 4;         // most literals of a clause that is given away; units always are
     bool share = true;
@@ -48,7 +48,7 @@ std::string version();          // one line
 // processes.cpp: children, pipes and files.
 // ends all children, prints one line on standard error, exits with 1
 [[noreturn]] void refuse(const std::string &cause);
-extern void (*as_it_refuses)();                         // called then, except in children
+extern void (*as_it_refuses)();                         // refuse calls it, except in children
 extern bool another_refuses;  // another process reports the cause, and its end ends this one
 std::string error_text();                               // of errno
 double now();                                           // seconds
@@ -61,7 +61,7 @@ void close_all_but(const std::vector<int> &files);      // in a child
 Pipe make_pipe(int bytes);                              // of this size, if the system allows it
 void close_file(int &file);
 int create_file(const std::string &path);  // a new file; an old one of that name is removed
-int create_if_possible(const std::string &path);        // the same, or -1
+int create_if_possible(const std::string &path);        // like that, but -1 if it fails
 bool remove_file(const std::string &path);              // also true if there is none
 bool rename_file(const std::string &path, const std::string &other);
 void create_pipe(const std::string &path);
@@ -100,7 +100,7 @@ struct Child {
 
 // true in the child, which keeps these files
 bool begin(Child &child, const std::string &name, const std::vector<int> &kept);
-bool reap(const std::vector<Child *> &children);         // one that has ended; false if none has
+bool reap(const std::vector<Child *> &children);         // notes the end of one; false: none ended
 void wait_for(Child &child);
 void end_children();
 void give_way();  // makes the system kill this process first if memory is short
@@ -142,8 +142,8 @@ void open_record_again(const std::string &folder);      // of a resumed run
 // of an earlier run
 void clear_record(const std::string &folder, const std::vector<std::string> &kept);
 int open_in_record(const std::string &name);            // -1: it can't be opened
-void remove_checkpoints(const std::string &folder);     // of a run that needs none any more
-bool claim(const Place &place);                         // before making a file; false, with errno
+void remove_checkpoints(const std::string &folder);     // of a run that needs them no longer
+bool claim(const Place &place);                         // before making a file; false: see errno
 bool is_there(const std::string &path);
 std::string digest_of(int file, const std::string &path);
 std::string digest_of(const std::string &text);

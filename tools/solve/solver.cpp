@@ -38,8 +38,8 @@ public:
         if (count == 0) take('\n'), close_file(file);
     }
 
-    // 10, 20, or 0 for no answer. The status counts first. A status that the line `s` contradicts,
-    // or 10 without an assignment, is no answer.
+    // 10, 20, or 0 for no answer. The status decides if it is 10 or 20, otherwise the line `s`. A
+    // status that this line contradicts, or 10 without an assignment, is no answer.
     int answer(int status) const {
         bool satisfiable = verdict == SATISFIABLE_LINE,
              unsatisfiable = verdict == UNSATISFIABLE_LINE;

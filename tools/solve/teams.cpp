@@ -141,8 +141,8 @@ void Teams::find_streams() {
     if (are_streams) cited = inputs.options.solvers;
 }
 
-// Saved clauses take no more room in an engine than the formula does, or what an engine usually
-// learns, if that is more. Half of that room is for clauses that all engines get.
+// Saved clauses may take as much room in an engine as the formula does, or LEARNED literals if that
+// is more. Half of this room is for clauses that all engines get.
 void Teams::find_beginning() {
     const Formula &all = inputs.first_formula;
     uint64_t own = inputs.formula.clauses,
@@ -320,8 +320,8 @@ void Teams::go_on() {
     }
 }
 
-// Chooses the engine whose clauses take the most room; an engine that has refuted the formula only
-// if no other is left.
+// Chooses the engine whose clauses take the most room. It chooses an engine that has refuted the
+// formula only if no other is left.
 std::string Teams::choose_leaving(const std::string &cause) {
     size_t found = list.size();
     auto weight = [this](size_t k) { return has_refuted(k) ? 0 : 1 + LOAD(engine_status(k).held); };

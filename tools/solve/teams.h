@@ -12,7 +12,7 @@ struct Team {
     Child engine, filter;
     Pipe proof;
     uint64_t proof_size = 0;    // bytes of a regular file; 0: not known
-    // its file; a file in memory for when that can't be written any more
+    // its file; a file in memory, for lines that can't be written to the first any more
     int stream = -1, spare = -1;
     signed char *model = nullptr;
     std::string command;    // a solver's, or the proof's name
@@ -28,7 +28,7 @@ public:
     std::vector<uint32_t *> outboxes;
     Dealer dealer;
     std::string record;                 // the folder of kept streams, with a slash
-    // when an engine refuted the formula, reset if its filter ends; 0: none has
+    // the time at which an engine refuted the formula; 0: none has, or its filter has ended
     double answered = 0;
 
     explicit Teams(const Inputs &given) : inputs(given) {}

@@ -1,5 +1,5 @@
 // Unverified, like the whole solver. Everything that tests change in a run, in one table. In a
-// build for tests (SOLVE_TESTS), the variable LRUP_SOLVE_HOOKS, which is read first, sets those
+// build for tests (SOLVE_TESTS), the variable LRUP_SOLVE_HOOKS, which is read first, sets entries
 // that aren't 0: 'slice=20;late_gifts=1;set=elimint=10 probeint=10'. In other builds the table is
 // constant, so that the compiler removes all code for it. 0 means the usual behaviour.
 #ifndef TEST_HOOKS_H
@@ -15,7 +15,7 @@
     NUMBER(largest)             /* words of the largest row of one stream */                       \
     NUMBER(slice)               /* conflicts after which an engine takes over clauses */           \
     NUMBER(outbox)              /* words of an outbox */                                           \
-    NUMBER(ahead)               /* bytes that lrupd hasn't got, above which a filter waits */      \
+    NUMBER(ahead)               /* how many bytes a filter may be ahead of lrupd before it waits */\
     NUMBER(tries)               /* of lrupd */                                                     \
     NUMBER(exchanging)          /* milliseconds between exchanges of processes */                  \
     NUMBER(last_gift)           /* the gift of engine 1 at which its filter dies, unflushed */     \

@@ -71,7 +71,7 @@ static int file_without_name(void) {
     return file;
 }
 
-// Unpacks the file into a temporary one. If it fails, the program itself prints why.
+// Unpacks the file into a temporary one. If this fails, the unpacking program prints why.
 static int unpacked(int packed, const char *program, const char *path) {
     int file = file_without_name(), status;
     fflush(NULL);

@@ -89,7 +89,7 @@ static void assume(Proof *proof, const char *path) {
         stop("%s: not a line of literals of FORMULA's variables and 0, with single spaces", path);
 }
 
-// Prints a text, and a word that is quoted for a shell in the same way as by lrup-solve.
+// Prints a text, and a word, quoted for a shell as lrup-solve quotes words.
 static void print(const char *text, const char *word) {
     bool is_plain = *word != 0;
     for (const char *at = word; *at; at++)

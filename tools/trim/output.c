@@ -47,8 +47,8 @@ void output_close(void) {
     if (close(output->file) != 0) stop("%s: %s", output->path, strerror(errno));
 }
 
-// The core has FORMULA's order and variables. A comment before a clause gives the clause's number
-// in FORMULA, as in lrupd's checkpoints.
+// The core has FORMULA's variables, and its clauses are in FORMULA's order. A comment before a
+// clause gives the clause's number in FORMULA, as in lrupd's checkpoints.
 
 void formula_free(Formula *formula) {
     formula->starts.items = grow(formula->starts.items, 0);

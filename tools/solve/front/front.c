@@ -131,7 +131,7 @@ static const char *beside_this(const char *name) {
 static const char *on_the_path(const char *name) {
     char *list = getenv("PATH"), *rest = text("%s", list ? list : ""), *folder;
     while ((folder = strsep(&rest, ":")) != NULL) {
-        if (folder[0] != '/') continue;     // trusted (PATH): not by . or an empty element
+        if (folder[0] != '/') continue;     // trusted (PATH): skips relative and empty elements
         const char *found = text("%s/%s", folder, name);
         if (is_program(found)) return found;
     }
@@ -305,7 +305,7 @@ static bool read_line(void) {
     if (strncmp(line, "c ", 2) != 0) return true;           // trusted (comments): nothing else
     for (char *at = line; *at != 0; at++)
         if (*at < ' ' || *at > '~') *at = '?';              // trusted (one line): in ASCII
-    line[BLOCK - 1] = 0;        // the pipe takes it, with its line feed, at once
+    line[BLOCK - 1] = 0;        // then the pipe takes it whole, with its line feed
     if (!options.quiet && !has_refused && poll(&output, 1, 0) > 0) puts(line);
     fflush(stdout);
     return true;
@@ -335,7 +335,7 @@ static void collect_end(enum which which) {
     struct child *child = &children[which];
     signal_group(which, SIGKILL);       // whatever it leaves in its group
     if (waitid(P_PIDFD, (id_t)child->handle, &child->end, WEXITED | WNOHANG) != 0) err(1, "waitid");
-    if (child->end.si_pid == 0) return;         // while another process traces it
+    if (child->end.si_pid == 0) return;         // another process still traces it
     close(child->handle);
     child->handle = -1;
     if (which == LRUPD) set_verdict(UNSATISFIABLE, "s UNSATISFIABLE");
@@ -415,7 +415,7 @@ static int answer(void) {
     if (is_satisfied && !satisfies(formula, true)) is_satisfied = false;        // trusted (model)
     if (assume && is_satisfied) is_satisfied = satisfies(assume, false);        // trusted (assumed)
     if (is_refused && !has_refused && !verdict && !ended_by) errx(1, "lrupd didn't accept FORMULA");
-    sigprocmask(SIG_SETMASK, &mask_before, NULL);           // a signal ends a wait for a reader
+    sigprocmask(SIG_SETMASK, &mask_before, NULL);           // a signal may end a blocked write
     const char *line = is_satisfied ? "s SATISFIABLE" : verdict ? verdict : "s UNKNOWN";
     if (is_satisfied) print_assignment();
     else if (verdict || !has_refused) puts(line);

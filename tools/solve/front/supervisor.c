@@ -75,7 +75,7 @@ static void report(int says, bool is_mpi) {
     if (line[0] != 0 && write(says, line, BLOCK) < 0) return;     // the pipe is full
 }
 
-// Returns when lrup-engines has ended, or SIGTERM comes: the front sends it, or has ended.
+// Returns when lrup-engines has ended, or when SIGTERM comes: the front has sent it, or has ended.
 static void wait_for_end(const sigset_t *all) {
     while (take_ends() && end == -1)
         if (sigwaitinfo(all, NULL) == SIGTERM) return;
