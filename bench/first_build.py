@@ -50,7 +50,7 @@ def main():
 Python {platform.python_version()}: **{clock(took)} by the clock**,
 {clock(usage.ru_utime)} of user and {clock(usage.ru_stime)} of system time.
 
-| Crate, in the order of their ends | By the clock | Processor seconds |
+| Crates, in the order in which they finished | By the clock | Processor seconds |
 |---|---|---|
 {table}
 ## Before{rest}""")

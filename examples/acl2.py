@@ -1,9 +1,9 @@
 #!/usr/bin/env python3
-"""Lets one of ACL2's verified checkers judge an LRAT proof of lrup-trim --lrat.
+"""Lets one of ACL2's verified checkers judge an LRAT proof from lrup-trim --lrat.
 
     acl2.py [--stobj] FORMULA PROOF
 
-The checker is the incremental one of ACL2's books, or, with --stobj, the stobj-based one. The
+The checker is the incremental one from ACL2's books, or, with --stobj, the stobj-based one. The
 script prints 's VERIFIED', with status 0, or 's NOT VERIFIED' and ACL2's message, with status 1. It
 needs Debian's packages acl2, acl2-books and acl2-books-certs.
 

@@ -69,8 +69,8 @@ def clauses_of(formula: Path) -> int:
 
 
 def in_order(streams: List[List[Line]]) -> List[Line]:
-    """The lines of all streams in an order as above. If no line is ready, takes one anyway: lrupd
-    will report its fault."""
+    """The lines of all streams ordered as described above. If no line is ready, takes one anyway:
+    lrupd will report its fault."""
     owners = {line.identity: line.stream for lines in streams for line in lines if line.kind == "a"}
     cites = Counter(identity for lines in streams for line in lines if line.kind != "d"
                     for identity in line.cited)

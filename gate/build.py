@@ -189,7 +189,7 @@ def prove_libraries(rt, done):
                 done.add(lane.name)
                 print_proved(done, lane.name, lane.began, lane.used)
     except BaseException:
-        # A second signal would leave an out/ in its lane.
+        # A second signal would leave a library's out/ in the lane.
         for number in (signal.SIGINT, signal.SIGTERM):
             signal.signal(number, signal.SIG_IGN)
         raise

@@ -5,7 +5,7 @@
 
 #include "../tools/solve/mpi_run.h"
 
-// No round ends here.
+// No round ends in these tests.
 uint64_t checkpoint_place(const Checkpoint *, uint64_t) { return 0; }
 
 namespace {

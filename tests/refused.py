@@ -201,8 +201,8 @@ def unmixed(err: str, watched: Set[str], how: str) -> str:
 
 def without_watched_ends(answer: Answer, refuse: str, mixes: bool) -> Answer:
     """Removes the lines of --watch about how each stream ended. If they don't agree with the
-    report, the answer has no status. A truncated report may say less, and so may these lines if a
-    write fails. Lines of several threads may mix only if a write is short."""
+    report, the returned answer has no status. A truncated report may say less, and so may these
+    lines if a write fails. Lines of several threads may mix only if a write is short."""
     kind, _, how = (refuse.split(":") + ["", ""])[:3]
     is_short, fails = kind == "write" and how in SHORT, kind == "write" and how not in SHORT
     reported = {re.sub("^c", "lrupd:", line) for line in answer.out.splitlines(keepends=True)
@@ -374,7 +374,7 @@ def in_turn(kind: str, how: str, given: InRounds) -> List[Answer]:
     found = [given.stopped(1, "cannot read formula", 5)]
     for number in range(1, given.reached + 1):
         if number > 1:
-            # Without a file of sizes, the sizes of the round before apply, which are the same.
+            # Without a file of sizes, the previous round's sizes apply: they equal the file's.
             found.append(given.ended(given.count) if how == "ENOENT"
                          else given.stopped(number, "cannot read sizes", 5))
         found += [failed_opening(number, stream, how, given) for stream in streams
@@ -415,7 +415,7 @@ def without_memory(given: InRounds) -> Iterator[Answer]:
 
 
 def is_failed_stream(answer: Answer, cause: str, given: InRounds, machine: Machine) -> bool:
-    """Whether one stream ended with this cause at a line, and no round follows. Then answer and
+    """Whether one stream ended with this cause at a line, and no round follows. Then the answer and
     checkpoint have to be those of a run of this round only, in which the stream ends there."""
     failed = re.findall(rf"^c stream (\d+): .*, {cause} at line (\d+)$", answer.out, re.M)
     number = int((re.findall(r"^c round (\d+)$", answer.out, re.M) or [1])[0])

@@ -78,8 +78,8 @@ def rounds(name: str, status: int, texts: Texts, out: str = "", err: str = "",
            saved: Sequence[str] = (), options: str = "", others: Mapping[str, str] = {},
            gone: Sequence[str] = (), do: str = "", how: str = "",
            pipes: Mapping[str, Pieces] = {}) -> Iterator[Named]:
-    """Runs with streams of these texts, and what has to be saved after each round; there must be no
-    other formula of a round, and no file may have changed.
+    """Runs with streams of these texts, and what has to be saved after each round; no other round's
+    formula may exist, and no file may have changed.
 
     The shell first executes `do`; streams in `gone` or `pipes` aren't files at the end."""
     given = {name: text for name, text in {**round_files(texts), **others}.items()

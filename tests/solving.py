@@ -134,7 +134,7 @@ def before_lrupd(what: str, work: Path) -> Path:
 
 
 def of_process(pid: int, name: str) -> str:
-    """What /proc has about a process; empty if the process doesn't exist."""
+    """What this file of /proc says about a process; empty if the process doesn't exist."""
     try:
         return Path(f"/proc/{pid}/{name}").read_text()
     except OSError:
@@ -172,7 +172,7 @@ def end_group(process: "subprocess.Popen[Any]") -> None:
 
 
 def waits_of(pid: int) -> int:
-    """How often the process has waited for something."""
+    """How many times the process has waited for something."""
     found = re.search(r"^voluntary_ctxt_switches:\s+(\d+)", of_process(pid, "status"), re.M)
     return int(found[1]) if found else 0
 

@@ -279,7 +279,7 @@ def other_hints_alone(seed: int, work: Path) -> None:
 
 
 def cited_by(text: str) -> Set[int]:
-    """The identities in hints and imports, as far as they are numbers."""
+    """Those identities in hints and imports that are numbers."""
     found: Set[int] = set()
     for line in text.splitlines():
         words = line.split()
@@ -628,7 +628,7 @@ def good(words: Sequence[object], work: Path) -> None:
 
 
 def in_rounds(number: int, work: Path) -> None:
-    """Two solvers in three rounds, with a fault in one of them; the rounds after that one are
+    """Two solvers in three rounds, with a fault in one round; the rounds after that one are
     removed."""
     numbers = random.Random(f"{number} rounds")
     formula, streams = (example("pigeonhole.cnf"),
@@ -684,7 +684,7 @@ WRONG_LINE = "for (size_t k = 1; k < level_zero.length; k++) PUSH(hints, level_z
 def emitter(work: Path) -> None:
     """If each bad line gets the hints that are offered for it, the stream becomes good."""
     learn = (EXAMPLES / "solver" / "learn.c").read_text()
-    want(learn.count(RIGHT_LINE), 1, f"how often learn.c has '{RIGHT_LINE}'")
+    want(learn.count(RIGHT_LINE), 1, f"how many times learn.c has '{RIGHT_LINE}'")
     sources = shutil.copytree(EXAMPLES / "solver", work / "solver",
                               ignore=shutil.ignore_patterns("out"))
     written(learn.replace(RIGHT_LINE, WRONG_LINE), sources, "learn.c")

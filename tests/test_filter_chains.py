@@ -1,6 +1,6 @@
 """Runs the filter, and lrup-solve, on formulas with long chains, and lrupd on the output.
 
-There are chains of 10 to 1,000,000 steps, of units and of one failed literal, and the other
+There are chains of 10 to 1,000,000 steps, from a unit clause or a failed literal, and the other
 formulas of bench/solve/easy.py. lrupd has to accept each stream to its end, with the verdict
 'unsatisfiable', and a stream's bytes and lines have to be linear in the formula's. Proofs are
 written by hand, or by CaDiCaL if it is on the PATH. Some have chains of more hints than a line may

@@ -458,8 +458,8 @@ def gone(number: int) -> str:
 
 
 def lrupd_ends(body: str, status: int, awaited: int, work: Path) -> None:
-    """lrupd ends in round 1, for a reason of its own. The filter notices at the FIFO of that round
-    or of the next one."""
+    """lrupd ends in round 1, for a reason of its own. The filter notices that at the FIFO of that
+    round or of the next one."""
     proof, word, _ = proof_of("bmc.cnf", "bmc.lrup", "binary DRAT")
     lrupd = in_place_of_lrupd(f"for stream; do :; done; {body}", work)
     checked = check(example("bmc.cnf"), proof, ["--memory", "48K", "--format", word],
@@ -471,14 +471,14 @@ def lrupd_ends(body: str, status: int, awaited: int, work: Path) -> None:
 
 
 class Sides(NamedTuple):
-    """The filter, midway in a round, at a pipe that stays open, and lrupd beside it."""
+    """The filter, midway in a round and with the proof's pipe open, and lrupd beside it."""
     running: "subprocess.Popen[bytes]"
     checking: "subprocess.Popen[str]"
     pipe: IO[bytes]
     rest: bytes
 
     def go_on(self) -> None:
-        """Writes the rest of the proof, as far as anybody reads it."""
+        """Writes the rest of the proof, until nobody reads it any more."""
         def write() -> None:
             with contextlib.suppress(OSError):
                 self.pipe.write(self.rest)

@@ -1,6 +1,6 @@
 """Runs common solvers beside the filter and the program.
 
-CaDiCaL, CryptoMiniSat and PicoSAT, as far as they are on the PATH, write their proofs to pipes, and
+Those of CaDiCaL, CryptoMiniSat and PicoSAT that are on the PATH write their proofs to pipes, and
 the filter's output is checked while they run."""
 import os
 import re

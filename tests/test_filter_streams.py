@@ -267,7 +267,7 @@ def parts_of(form: str) -> Tuple[List[bytes], bytes]:
 
 def is_whole(form: str, proof: bytes, length: int) -> bool:
     """Whether a proof in a text form ends with a whole step if it is cut to this length. The step's
-    LF may be missing, and FRAT's hints, too."""
+    LF may be missing, and so may FRAT's hints."""
     line = proof[:length].rsplit(b"\n", 1)[-1]
     without_hints = form.startswith("FRAT") and line.startswith(b"a ") and line.split()[-1] == b"0"
     return not line or proof[length:length + 1] == b"\n" or without_hints
@@ -315,7 +315,7 @@ def closed_input(work: Path) -> None:
 
 
 def fails(proof: str, out: Any, work: Path) -> None:
-    """The stream can't be written: there is one line of message, and status 1."""
+    """The stream can't be written: there is a message of one line, and status 1."""
     done = run([FILTER, written(FOUR, work)], proof, stdout=out)
     want((done.status, done.err.count("\n"), done.err[:12]), (1, 1, "lrup-exact: "),
          "the status and the lines")
@@ -337,7 +337,7 @@ def left(work: Path) -> None:
 
 
 def unreadable(words: List[str], work: Path) -> None:
-    """A file can't be read: there is one line of message, and status 1."""
+    """A file can't be read: there is a message of one line, and status 1."""
     formula = written(FOUR, work)
     text, said, status = exact([word.format(formula=formula, work=work) for word in words])
     want((text, status, said.count("\n"), said[:12]), ("", 1, 1, "lrup-exact: "),

@@ -51,7 +51,7 @@ def chain(name: str, status: int, streams: Sequence[str], out: str, err: str = "
                         shell=shell, left=left(saved))
 
 
-# Ends, and the files left.
+# How runs end, and the files left.
 
 
 def ends() -> Iterator[Named]:
@@ -498,7 +498,7 @@ def chained(wanted: Wanted, shell: str, script: Path, work: Path) -> None:
 
 
 def rows_of(shell: str) -> List[Row]:
-    """Each row ends with the shell and the script."""
+    """The last arguments of each row are the shell and the script."""
     found: List[Row] = []
     for table in ends, sizes, in_the_way, words:
         found += [(name, chained, wanted) for name, wanted in table()]

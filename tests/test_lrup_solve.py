@@ -137,8 +137,8 @@ def impostor(body: str, cause: str, work: Path) -> None:
 
 class Running:
     """A run whose engines, filters and lrupd have all been started. Processes that haven't ended
-    are killed when the block is left. A build for tests starts lrupd with the first line, before a
-    fast machine can finish."""
+    are killed when the block is left. A build for tests starts lrupd as soon as a stream has a
+    line, before a fast machine can finish."""
     HOOKS = {"FIRST_WORDS": 1 << 22}
 
     def __init__(self, formula: Path, work: Path, ignored: Sequence[int] = ()) -> None:

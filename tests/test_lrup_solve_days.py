@@ -247,7 +247,7 @@ def of_another(chain: Chain) -> None:
 
 @contextlib.contextmanager
 def disk(place: Path) -> Iterator[Callable[[int], None]]:
-    """Mounts a separate file system there; the function that it yields sets the size in
+    """Mounts a separate file system on this folder; the yielded function sets its size in
     kilobytes."""
     def sized(kilobytes: int, how: str = "remount,") -> bool:
         return run(["mount", "-t", "tmpfs", "-o", f"{how}size={kilobytes}k", "none",

@@ -306,7 +306,7 @@ def asked_for_more(body: str, starts: int, wanted: str, work: Path) -> None:
     status = {"s UNKNOWN": 0, "s UNSATISFIABLE": 20}[wanted]
     want((answer.answers, answer.status), ([wanted], status),
          f"the answer of\n{answer.out}{answer.said}")
-    want(len((work / "starts").read_text().splitlines()), starts, "how often it is started")
+    want(len((work / "starts").read_text().splitlines()), starts, "how many times it is started")
 
 
 def reading_stopped(work: Path) -> None:

@@ -52,7 +52,7 @@ def want_no_other(answer: Answer, right: str, formula: Path) -> None:
 SOURCES = ROOT / "tools" / "solve" / "front"
 WRAPPERS = TESTS / "refuse_front.c"
 WRAPPED = set(re.findall(r"CALL\((\w+), ", WRAPPERS.read_text()))
-# Besides the wrapped functions, the front calls only these of the libraries, as the linker shows.
+# Besides the wrapped functions, the front calls only these library functions, as the linker shows.
 CANNOT_FAIL = set("""__assert_fail __errno_location __isoc23_sscanf __isoc23_strtol __isoc99_sscanf
     __stack_chk_fail _exit clock_gettime dirname err errx feof ferror getenv getopt_long getpid
     getppid labs optarg opterr optind sigaddset sigemptyset sigfillset sscanf stdout strchr strcmp

@@ -244,7 +244,7 @@ def checked_by(words: Sequence[object], work: Path, formula: Path, **how: object
 
 
 def names_a_formula(work: Path) -> None:
-    """The record is checked on the named formula, and only on that."""
+    """The record is checked against the named formula, and against no other."""
     formula, here = generated("pigeons 5", work), work / "here"
     here.mkdir()
     want(solve(["-j", 1, "--proofs", "d", formula], cwd=work).status, 20, "the status")
@@ -326,7 +326,7 @@ PACKERS = {"xz": "xz", "gz": "gzip", "zst": "zstd"}
 
 
 def packed(forms: Sequence[str], tested: Optional[Dict[str, object]], work: Path) -> None:
-    """Streams are unpacked while they are read, each by its form. No file is left, and no
+    """Streams are unpacked while they are read, each according to its form. No file is left, and no
     process."""
     for form in forms:
         needs(PACKERS[form])
@@ -625,7 +625,8 @@ def written_into_a_record(work: Path) -> None:
 
 def on_a_disk(kilobytes: int, words: List[object], tested: Optional[Dict[str, object]],
               work: Path) -> Answer:
-    """A disk of that size for the record, or, without a record, for temporary files."""
+    """Runs lrup-solve with a disk of this size for the record or, without a record, for temporary
+    files."""
     (work / "full").mkdir()
     how = ["unshare", "-m" if os.getuid() == 0 else "-rm", "sh", "-c"]
     mounts = f"mount -t tmpfs -o size={kilobytes}k tmpfs full"

@@ -1,6 +1,6 @@
 """Runs lrup-solve in small rows, and kills each of its processes in turn, and lrupd repeatedly.
 
-Each of 10 formulas, or --count, is solved in an undisturbed run, and then once for each name of a
+Each of 10 (or --count) formulas is solved in an undisturbed run, and then once for each name of a
 process, which is killed some time after it starts. The answer has to be right, or 's UNKNOWN'; if
 the front is killed, it may be missing, but not wrong. No process and no file may be left. If a run
 keeps a record, lrupd is killed up to five times: the answer has to be right, and the record is
@@ -143,7 +143,7 @@ def killed_again(words: str, count: int, most: float, hooks: Optional[Mapping[st
     until("its files are removed", lambda: not os.listdir(files), SOON)
     want_answer(answer, 20)
     found = len(kills.pids) > 0, answer.comments.count(AGAIN)
-    want(found, (True, len(kills.pids)), f"how often lrupd is started again, in\n{answer.out}")
+    want(found, (True, len(kills.pids)), f"how many times lrupd is started again, in\n{answer.out}")
     check_again(kept)
 
 
@@ -191,7 +191,7 @@ def changed(work: Path) -> None:
 
 def in_its_place(body: str, starts: int, status: int, cause: str,
                  hooks: Optional[Mapping[str, object]], options: Sequence[str], work: Path) -> None:
-    """Counts how often a program in lrupd's place is started to check streams."""
+    """Counts how many times a program in lrupd's place is started to check streams."""
     marked(work)
     counts = f"echo x >> {work}/starts; count=$(wc -l < {work}/starts)"
     lrupd = before_lrupd(f"case \"$*\" in *--rounds*) {counts}; {body};; esac", work)
@@ -200,7 +200,7 @@ def in_its_place(body: str, starts: int, status: int, cause: str,
                     formula], tested=hooks)
     want_answer(answer, status)
     want(len((work / "starts").read_text().splitlines()), starts,
-         f"how often it is started, in\n{answer.out}")
+         f"how many times it is started, in\n{answer.out}")
     if status == 20:
         check_again(work / "kept")
     want(cause == "" or any(cause in line for line in answer.comments), True,

@@ -1,6 +1,6 @@
 """Runs lrup-solve --mpi in two to eight processes on one host, and under failures between them.
 
-Runs have each answer, with and without sharing, with rows so small that a run takes many rounds,
+Runs find each answer, with and without sharing, with rows so small that a run takes many rounds,
 and with a record; or they are refused. Each kind of process is killed or stopped, in process 0 and
 in another one, and so are mpirun and the front. Rows with long waits or races are marked as long,
 and `make test` leaves them out. Without MPI, or mpirun, everything is skipped."""
@@ -292,7 +292,7 @@ def not_started(body: str, end: str, work: Path) -> None:
 
 
 class Running:
-    """A long run, with the ids of its processes: for each MPI process, by name."""
+    """A long run, with the ids of its processes, by name, for each MPI process."""
 
     def __init__(self, formula: Path, processes: int, tested: Optional[Mapping[str, object]] = None,
                  more: Sequence[str] = (), options: Sequence[object] = ()) -> None:

@@ -1,7 +1,7 @@
 """Kills runs of lrup-solve that keep a record, and resumes them, until there is a verdict.
 
 Whatever is killed, and however often, the answer has to be that of an undisturbed run; the whole
-record is checked again, and lrup-trim has to accept it. Three formulas, or --count, are solved in
+record is checked again, and lrup-trim has to accept it. Three (or --count) formulas are solved in
 this way. A record that was changed, truncated or swapped, even with matching digests, has to lead
 to the right answer, to 's UNKNOWN', or to a message that names the file; the record of another
 formula is refused, and nothing in it is touched."""
@@ -256,7 +256,7 @@ def by_the_clock(work: Path) -> None:
 
 def in_jobs(work: Path) -> None:
     """The script for Slurm, under a batch system that ends each job after its time: the system
-    warns the script by a signal, or kills everything at once."""
+    warns the script with a signal, or kills everything at once."""
     numbers, mark = random.Random(3), marked(work)
     formula, kept = generated("pigeons 9", work), work / "it's kept"
     path = ":".join([str(SOLVE.parent), str(Path(PROGRAM).parent), os.environ["PATH"]])
@@ -344,8 +344,8 @@ def contradictory(kept: Path) -> None:
 
 
 def another_beginning(kept: Path) -> None:
-    """Replaces the formula's clauses at the beginning, so that assignments that are found satisfy
-    another formula."""
+    """Replaces each clause of the checkpoint with a tautology, so that assignments that are found
+    satisfy another formula."""
     checkpoint = kept / f"checkpoint-{saved_rounds(kept)}.cnf"
     lines = checkpoint.read_text().splitlines(True)
     checkpoint.write_text(

@@ -135,7 +135,7 @@ def rows_stay_large(work: Path) -> None:
 
 
 def one_clause(work: Path) -> None:
-    """If a row has no room for a clause, the next row has."""
+    """If a row has no room for a clause, the next row has room for it."""
     clauses = [[-k for k in range(1, 400)], *([k, 1000 + k] for k in range(1, 400)),
                *([k, -1000 - k] for k in range(1, 400))]
     answer = solve(["-j", "1", written(dimacs(1400, clauses), work)],
@@ -280,7 +280,7 @@ def want_cause(answer: Answer, cause: str) -> None:
 
 def kill(words: Sequence[object], number: int, pause: bool, first_words: int, names: List[str],
          status: int, cause: str, work: Path) -> None:
-    """Kills children of a run in that round. If one had ended before, the run is tried again."""
+    """Kills children of a run in that round. If one has already ended, the run is tried again."""
     formula = generated("random 220 5", work) if status else generated("pigeons 11", work)
     said = []
     for _ in range(TRIES):

@@ -2,8 +2,8 @@
 
 CaDiCaL, CryptoMiniSat and PicoSAT, if they are on the PATH, and the example solver run alone,
 together and beside engines, on known formulas and random ones, in one round and in many. A solver
-that dies, lies, writes nonsense or hangs is lost: alone, it gives no verdict; beside a good solver,
-the answer is the good solver's. No process of a command outlives the run."""
+that dies, lies, writes nonsense or hangs is lost: alone, it gives no verdict, and it doesn't keep a
+good solver from answering. No process of a command outlives the run."""
 import os
 import random
 import re
@@ -129,7 +129,7 @@ def small_outbox(work: Path) -> None:
     given_away = [int(found.replace(",", ""))
                   for found in re.findall(r"([\d,]+) given away", answer.out)]
     want(min(given_away[:2]) > 240 // 3, True,
-         f"clauses given away, in\n{answer.out[-3000:]}: whether of each are more than 80")
+         f"clauses given away, in\n{answer.out[-3000:]}: whether each engine gave more than 80")
 
 
 def renamed(words: List[str], names: Mapping[str, str]) -> List[str]:
@@ -250,8 +250,8 @@ STANDING = ["sleep 1000 # %formula %proof", "sleep 1000 > %proof # %formula",
 
 
 def wrong(command: str, cause: str, work: Path) -> None:
-    """Alone, a wrong solver gives a reason, not a verdict; beside a good solver, the good one
-    answers."""
+    """Alone, a wrong solver gives a reason, not a verdict; it doesn't keep a good solver from
+    answering."""
     formula = given("random 120 5", work)
     answer = solve(["--time", "60", *by([command]), formula])
     want_answer(answer, 0)
@@ -309,7 +309,8 @@ def after_a_model(work: Path) -> None:
 
 def silent_solver(command: str, work: Path) -> None:
     """A solver that neither reads nor answers until the run ends. Alone, it uses up the time;
-    beside a good solver, the good one answers. The silent one is ended, with its children."""
+    next to a good solver, it doesn't keep that one from answering. The silent one is ended, with
+    its children."""
     mark, formula = marked(work), given("random 120 5", work)
     answer = solve(["--time", "1", *by([command]), formula])
     want((answer.answers, answer.comments[0], answer.status),

@@ -19,7 +19,7 @@ LINES = (FOLDER / "front.c").read_text().splitlines(keepends=True)
 # The words of each mark, by the number of its line, counting from 0.
 MARKS = {number: found[1] for number, line in enumerate(LINES) for found in MARK.finditer(line)}
 UNSATISFIABLE, UNDER = "s UNSATISFIABLE", "s UNSATISFIABLE UNDER ASSUMPTIONS"
-# While the front is stopped, lrupd ends, and a line is added after its last one.
+# While the front is stopped, lrupd ends, and a line is added after lrupd's last one.
 FORGES = """os.kill(int(front), signal.SIGSTOP)
 {end}
 time.sleep(0.3)

@@ -356,8 +356,8 @@ def full_outputs() -> Iterator[Named]:
 
 
 def usage(program: str, words: List[str], work: Path) -> None:
-    """There is no report, but help or one usage fault, in words that aren't lrupd's own. The first
-    line isn't repeated."""
+    """There is no report, but the help or one usage fault. No line begins with 'lrupd: ', and the
+    first line isn't repeated."""
     out, err, status = answered(program,
                                 Wanted(words, 2, files={**FILES, "cube": CUBE.read_text()}), work)
     want((out, status), ("", 2), "the output and the status")

@@ -284,8 +284,8 @@ def recorded(program: str, way: str, formula: Path, names: List[str], part: floa
     streams = []
     for name in names:
         lines = example(name).read_text().splitlines(True)
-        # All streams keep the same number of lines, so that, in turn, each line comes after what
-        # it cites.
+        # All streams keep the same number of lines, so that, if streams take turns, each line comes
+        # after what it cites.
         count = int(part * min(len(example(other).read_text().splitlines()) for other in names))
         streams.append(written("".join(lines[:count]), work, name))
     entries, saved = live(formula, streams), work / "saved"

@@ -4,7 +4,7 @@ PROGRAM is built by LLVM. With --serial, runs over the same files take the same 
 instructions. Only the lines are to be counted, so a run over empty streams is subtracted. Each
 count has to be within 5 % of its figure: the toolchain is fixed, and the margin is for other C
 libraries and processors. If a change is meant to move a count, replace its figure with the printed
-one. How the work grows with an assumed cube is compared by ratios, which need no figure."""
+one. How the work grows with an assumed cube is checked by ratios, which need no figure."""
 import os
 import re
 from pathlib import Path
@@ -54,7 +54,7 @@ def long_lines(program: str, work: Path) -> None:
 
 
 def assumed(program: str, literals: int, lines: int, work: Path) -> int:
-    """Some additions under that many assumed literals, none of which contradicts them."""
+    """Some additions under that many assumed literals; no addition contradicts them."""
     formula = written(f"p cnf {LITERALS} 2\n1 2 0\n-1 2 0\n", work)
     cube = written("".join(f"{literal} " for literal in range(1, literals + 1)) + "0\n", work,
                    "cube")

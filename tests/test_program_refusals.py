@@ -1,9 +1,9 @@
 """Refuses each allocation, read, write, thread, open, creation of a file and flush of the program
 in turn, and compares each answer and checkpoint with the permitted ones.
 
-It builds refuse.c, which the loader puts before the C library, and runs the program with the first
+Builds refuse.c, which the loader puts before the C library, and runs the program with the first
 call of a kind refused, then the second, and so on until a run meets no refusal; that run has to
-give the normal answer. Then it does the same with a few of the crates' tests: runs without the
+give the normal answer. Then the same is done with a few of the crates' tests: runs without the
 program around them, calls that can be repeated, and calls that allocate nothing. Tests that `rt ci`
 built are used as they are; others are built with --rt. If a thread isn't started, those that were
 started have to end before that is reported, and pipes that stay open may delay nothing; a program
@@ -29,9 +29,9 @@ from rounds import ONE, TWO, Proof
 
 class Test(NamedTuple):
     """A test, its answers if an allocation is refused, and for how many streams it starts threads.
-    `always`: it reports each refusal, since all its allocations are made by calls with such an
-    answer. `last`: the sweep ends at this allocation, since later ones are for threads of the test
-    that wait for each other. `looks`: it checks the refusal's effect itself, and passes."""
+    `always`: it reports each refusal, since all its allocations are made by calls that report
+    refusals. `last`: the sweep ends at this allocation, since later ones are for threads of the
+    test that wait for each other. `looks`: it checks the refusal's effect itself, and passes."""
     crate: str
     name: str
     causes: List[str]

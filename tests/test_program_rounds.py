@@ -1,8 +1,8 @@
 """Runs the program with --rounds, and compares its answers and checkpoints.
 
-Each row runs with threads and with --serial. Rounds end with each verdict and with wrong lines, the
-first one and later ones; streams and sizes are files and pipes, and a checkpoint is replaced
-between two rounds. What stops a round is in test_program_rounds_faults.py."""
+Each row runs with threads and with --serial. The first round and later ones end with each verdict
+and with wrong lines; streams and sizes are files and pipes, and a checkpoint is replaced between
+two rounds. What stops a round is in test_program_rounds_faults.py."""
 import re
 import shutil
 import subprocess
@@ -414,7 +414,7 @@ def many(count: int, limits: str, options: str, program: str, way: List[str], wo
 
 
 def special_rows(way: List[str]) -> Iterator[Row]:
-    """Rows that aren't tables; each ends with the program and the way."""
+    """Rows that aren't in tables; their functions also get the program and the way."""
     yield "a producer", whole_when_opened
     for name, forge in FORGERIES.items():
         for at in "d/round-2.sizes", stream_name(2), stream_name(2, 2):

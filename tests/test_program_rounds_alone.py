@@ -117,8 +117,8 @@ class Writer:
 
     def write_line(self) -> None:
         kind, live = self.numbers.random(), sorted(self.clauses)
-        # This is usually wrong. Clauses of other streams aren't cited, since their timing is
-        # unknown.
+        # The first kind of line is usually wrong. Clauses of other streams aren't cited, since
+        # their timing is unknown.
         if kind < 0.004:
             self.lines.append(f"{self.next} {self.numbers.choice((1, -2, 99))} 0 "
                               f"{self.numbers.choice([*live, 10 ** 9])} 0")

@@ -213,7 +213,7 @@ def sizes() -> Iterator[Named]:
     yield from second("", NO_ROOM, SAVED_ONE, "--room 2")
     yield from second("1 2 3\n", LINES_SAID, LINES_SAVED, "--lines 0 --room 0")
     yield from second("1 1 3\n", NO_LINE, SAVED_ONE, "--lines 2 --room 3")
-    # The options' limits are allowed in a file of sizes, but exceed a row.
+    # The options' limits are allowed in a file of sizes, but are too large for a row.
     for text in "1 268435456 0\n", "1 0 268435456\n", "1 268435456 268435456\n":
         yield from too_long(text)
     # The formula has 4 clauses and 8 literals; the total is at most 268,435,455.

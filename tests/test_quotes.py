@@ -28,7 +28,7 @@ def refused(old: str, new: str, said: List[str], work: Path) -> None:
         (work / name).symlink_to(ROOT / name)
     page = work / "docs" / PAGE
     before = page.read_text()
-    want(before.count(old), 1, f"how often {PAGE} has '{old}'")
+    want(before.count(old), 1, f"how many times {PAGE} has '{old}'")
     page.write_text(before.replace(old, new))
     done = run([sys.executable, work / "gate" / "quotes.py"])
     want((done.err, done.status), ("", 1 if said else 0),

@@ -168,7 +168,7 @@ def at_random(seed: int, work: Path) -> None:
 
 
 def longer_than_a_row(output: str, formula: str, work: Path) -> None:
-    """Checks this output with small rows of the filter, with the command that lrup-trim prints."""
+    """Checks this output with the command that lrup-trim prints for large ones, in small rows."""
     trimmed(example("bmc.cnf"), [example("bmc.lrup")], work)
     os.symlink(example("bmc.cnf"), work / "bmc.cnf")
     command = (f'"$1" --rounds live --memory 48K {formula} {output} | {{ read ready && '
@@ -271,7 +271,8 @@ def fewer_streams(work: Path) -> None:
 
 
 def assuming(work: Path) -> None:
-    """Lines after the clause that contradicts the assumptions aren't needed, nor some before it."""
+    """Lines after the clause that contradicts the assumptions aren't needed, and neither is one
+    before it."""
     stream = written("3 2 1 0 1 0\n4 2 0 1 2 0\n5 1 2 0 4 0\n", work, "a stream")
     trimmed(example("assumed.cnf"), [stream], work, example("assumed.cube"))
     want((work / "stream").read_text(), "3 2 0 1 2 0\n", "the stream")

@@ -5,11 +5,11 @@
 
 SOLVE, lrup-solve with two engines, and TRIM, lrup-trim, make the proofs, which FOLDER keeps. lrupd,
 both checkers of ACL2, and check.c, an unverified one, have to accept all of them; each runs N times
-in turn, 3 by default, and the least user time counts. With N = 0, nothing is timed. Then one fault
-each is put into copies of an LRAT proof. The tables of RESULTS are printed. The status is 1 if a
-good proof is refused, if lrupd accepts a faulty proof that both others refuse, except a proof with
-a literal twice, or if lrupd accepts a proof for a satisfiable formula. It needs Python 3, a C
-compiler, and Debian's acl2, acl2-books and acl2-books-certs."""
+in turn, 3 by default, and the least user time counts. With N = 0, nothing is timed. Then copies of
+an LRAT proof get one fault each. The tables of RESULTS are printed. The status is 1 if a good proof
+is refused, if lrupd accepts a faulty proof that both others refuse, except a proof with a literal
+twice, or if lrupd accepts a proof for a satisfiable formula. It needs Python 3, a C compiler, and
+Debian's acl2, acl2-books and acl2-books-certs."""
 import argparse
 import collections
 import os
@@ -80,7 +80,7 @@ def solved(given, words, work):
 
 
 def user_time(words):
-    """The user time of a checker that has to accept, and its peak memory in MiB."""
+    """The user time of a checker that has to accept the proof, and its peak memory in MiB."""
     before = resource.getrusage(resource.RUSAGE_CHILDREN).ru_utime
     _, _, memory, (out, status) = run(words)
     if status != 0 or b"s UNSATISFIABLE" not in out:

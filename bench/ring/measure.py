@@ -1,10 +1,10 @@
 #!/usr/bin/env python3
 """measure.py [--rounds N] [--programs FOLDER]
 
-Measures what a byte costs through the ring between two threads (`stream_threads`), and what a
-silent or slow stream costs: wall time and processor time of a program that does nothing else. The
-figures are medians over the rounds. The program in FOLDER is used if it exists, and otherwise built
-there. Needs the toolchain's `rt`."""
+Measures what it costs to send a byte through the ring between two threads (`stream_threads`), and
+what a silent or slow stream costs: wall time and processor time of a program that does nothing
+else. The figures are medians over the rounds. The program in FOLDER is used if it exists, and
+otherwise built there. Needs the toolchain's `rt`."""
 
 import argparse
 import os

@@ -48,7 +48,7 @@ def failed(steps):
 
 
 def corridor(cells, horizon):
-    """Someone who is in a cell at a time was there before, or walked there; a step begins in the
+    """Someone who is in a cell at some time was there before, or walked there; a step begins in the
     current cell."""
     width = 3 * (cells + 1)
 

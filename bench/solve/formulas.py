@@ -36,7 +36,7 @@ HERE = os.path.dirname(os.path.abspath(__file__))
 GENERATOR = os.path.join(HERE, "..", "..", "examples", "solver", "generate.py")
 # The formulas that table.py times. CaDiCaL refutes each in some seconds.
 FAMILIES = {
-    # Two multipliers are equal, and a divider and a multiplier are inverse.
+    # Two multipliers are equal, and a divider and a multiplier are inverses of each other.
     "arithmetic": (("commute 8", "a b = b a, 8 bits"), ("divide 12", "a divider, 12 bits"),
                    ("divide 13", "a divider, 13 bits")),
     # Two sorting networks are equal.

@@ -97,7 +97,7 @@ def chart(rounds: List[Round], samples: Samples) -> str:
 
 def solve(words: List[str], seconds: float, began: float,
           samples: Samples) -> Tuple[int, List[str]]:
-    """Runs lrup-solve, and kills it after these seconds. Returns its status, and what it said."""
+    """Runs lrup-solve, and kills it after this many seconds. Returns its status and its output."""
     run = subprocess.Popen(words, stdout=subprocess.PIPE, text=True)
     said: List[str] = []
     assert run.stdout

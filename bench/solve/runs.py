@@ -134,7 +134,7 @@ class Bench:
         began, busy, own = time.monotonic(), busy_seconds(), own_seconds()
         status, said = run(self.command(path, engines))
         clock, processor = time.monotonic() - began, own_seconds() - own
-        # Both are in hundredths of a second.
+        # The system counts busy time in hundredths of a second.
         others = max(0.0, (busy_seconds() - busy - processor) / max(clock, MOMENT))
         parts = {"path": processor, "filters": 0.0, "lrupd": 0.0, "verdict": 0.0}
         if engines != ALONE and status == UNSATISFIABLE:

@@ -3,8 +3,8 @@
 
     table.py [OPTIONS] SOLVE LRUPD
 
-    --rounds N              how often each runs, 3 by default; the medians count. 0 only prints
-                            FILE's results
+    --rounds N              how many times each runs, 3 by default; the medians count. 0 only
+                            prints FILE's results
     --results FILE          keep each run's result there, and continue from those that it has: a
                             call may be stopped at any time
     --formulas NAME,..      only these: a family's name, a formula's words, or its first word
@@ -230,7 +230,7 @@ def easy_times(engines: List[int], every: List[Formula], medians: List[Medians])
 
 def note(given: argparse.Namespace, bench: Bench, every: List[Formula],
          medians: List[Medians]) -> str:
-    """Describes the runs of which the table shows medians."""
+    """Describes the runs whose medians the table shows."""
     counts = [len(bench.of(formula, engines, given.others)) for formula in every
               for engines in (ALONE, *given.engines)]
     runs = (f"{max(counts)} runs" if min(counts) == max(counts)

@@ -1,6 +1,6 @@
 # awk -v output=NAME -f aiger2cnf.awk CIRCUIT: asks, as DIMACS CNF, whether this output of a circuit
 # can be 1. The circuit is in ASCII AIGER, without latches. Each gate becomes three clauses. A
-# comment `c NAME LITERAL` names each other output, and each input that has a name.
+# comment `c NAME LITERAL` names each of the other outputs, and each input that has a name.
 function literal(code) { return (code % 2 ? "-" : "") (code < 2 ? constant : int(code / 2)) }
 function complement(code) { return literal(code % 2 ? code - 1 : code + 1) }
 NR == 1 {

@@ -57,7 +57,7 @@ def ground(domain, problem):
 def main(shows, domain, problem, steps):
     facts, goal, actions = ground(read(domain, "domain"), read(problem, "problem"))
     fluents = sorted(goal.union(*(wants + adds + deletes for _, wants, adds, deletes in actions)))
-    # For each step a variable for each fact, and for each action's number.
+    # For each step, a variable for each fact, and for each action's number.
     fresh = itertools.count(1)
     at = [{what: next(fresh) for what in [*fluents, *range(len(actions))]}
           for _ in range(steps + 1)]

@@ -18,7 +18,7 @@ OPTIONS = ["--tries", "1000000", "--lines", "500000", "--room", "10000000", "--w
 
 
 def show(lines, begin, times):
-    """Shows each line when it comes, with the seconds since the start, and keeps the time."""
+    """Shows each line as it comes, with the seconds since `begin`, and adds the time to `times`."""
     for line in lines:
         times.append(time.monotonic())
         print("%5.1f s  %s" % (times[-1] - begin, line.rstrip("\n")), flush=True)

@@ -38,7 +38,7 @@ def order_clauses(elements):
                 pairs[one, other] = len(pairs) // 2 + 1
                 pairs[other, one] = -pairs[one, other]
     least = [[pairs[other, one] for other in elements if other != one] for one in elements]
-    # No cycle of three elements; each begins at its least one, in both directions.
+    # No cycle of three elements, in either direction; each cycle begins at its least element.
     circles = [[-pairs[one, two], -pairs[two, three], -pairs[three, one]]
                for one in elements for two in elements for three in elements
                if one < two and one < three and two != three]

@@ -132,8 +132,8 @@ unsigned lbd_of(Solver *solver, const Literals *literals) {
     return count;
 }
 
-// The hints are the unit clauses of the clause's literals, except of the first `skipped` ones, and
-// then the clause itself.
+// The hints are the unit clauses of the clause's literals after the first `skipped` ones, and then
+// the clause itself.
 static void hint_at_level_zero(Solver *solver, const Clause *clause, unsigned skipped) {
     solver->hints.length = 0;
     for (unsigned k = skipped; k < clause->length; k++)

@@ -71,7 +71,7 @@ static char **read_options(Portfolio *portfolio, char **words, bool *progress) {
     return words;
 }
 
-// Opens the streams in lrupd's order: with FIFOs each side waits for the other.
+// Opens the streams in lrupd's order: with FIFOs, each side waits for the other.
 static void open_all(Portfolio *portfolio, char **paths) {
     for (int k = 0; k < portfolio->solvers; k++) {
         Solver *solver = &portfolio->solver[k];

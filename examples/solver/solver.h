@@ -92,7 +92,7 @@ typedef struct Solver {
     // by variable: the clause that implied its value; NULL for decisions, and at level 0
     Clause **reasons;
     uint64_t *units;            // by variable: the identity of its unit clause at level 0
-    // the true literals in order; for each level the trail's length before it
+    // the true literals in order; for each level, the trail's length before it
     Literals trail, decisions;
     // how far the trail is propagated; how far its unit clauses are written
     size_t propagated, named;

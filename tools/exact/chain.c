@@ -1,7 +1,7 @@
 // Unverified, like the whole filter. Option --rounds: writes a stream for each round of lrupd
 // --rounds, through FIFOs. Each FIFO exists before the previous round's stream ends, since lrupd
 // then looks for it. Once lrupd has opened the FIFO, this program removes both the FIFO and the
-// file of sizes; it removes a checkpoint once it has read it. So the folder has files of an
+// file of sizes; it removes each checkpoint after reading it. So the folder has files of an
 // unfinished round only while this program waits for lrupd.
 #define _XOPEN_SOURCE 700
 #include <dirent.h>
@@ -48,8 +48,8 @@ static void lock_folder(void) {
         fail_file(folder, "another run uses this folder");
 }
 
-// Opens the folder. It must not have files of rounds: lrupd would read them, or refuse to overwrite
-// them.
+// Opens the folder, which must not have files of rounds: lrupd would read them, or refuse to
+// overwrite them.
 void chain_open(const char *path) {
     folder = path;
     if (strlen(folder) > LONGEST_PATH - LONGEST_NAME) fail_file(folder, "name too long");
@@ -169,7 +169,7 @@ static void next_round(uint64_t wanted) {
     round_delete(filter, &none, true);
     uint64_t clauses = round_clauses(filter, &literals);
     rows_grow(&rows);
-    size_round(clauses, literals, wanted, "the clauses that the solver has leave");
+    size_round(clauses, literals, wanted, "the solver's clauses leave");
     close_stream();
     open_stream();
     take_checkpoint();

@@ -261,7 +261,7 @@ static _Noreturn void stop_without_conflict(Filter *filter, const Addition *addi
          none, name, stream, stream);
 }
 
-// Finds a chain by unit propagation. A round may end before each lemma that is written for it.
+// Finds a chain by unit propagation. A round may end before each lemma that the chain needs.
 static void look_for_chain(Filter *filter, const Addition *addition, bool has_lemmas) {
     Propagation *propagation = &filter->propagation;
     ClauseRef conflict = propagation_conflict(propagation, &filter->literals);
@@ -481,7 +481,7 @@ void filter_original(Filter *filter, int64_t name, const int64_t *literals, size
         stop("the identity %lld is used twice", (long long)name);
     ClauseRef ref = take_set(filter, literals, length);
     if (ref == 0)
-        stop("an original clause that the formula doesn't have, or doesn't have that often");
+        stop("an original clause that the formula doesn't have, or not that many times");
     clauses_name(&filter->clauses, (uint64_t)name, ref);
 }
 

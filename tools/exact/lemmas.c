@@ -66,8 +66,8 @@ static ClauseRef write_shorter(Filter *filter, ClauseRef ref) {
     return shorter;
 }
 
-// Removes as many false literals from the clause as a line has hints for. Each removed literal has
-// a lemma. The literal of `own` is true, and stays in the clause.
+// Removes false literals from the clause, as many as a line may have hints for. Each removed
+// literal has a lemma. The literal of `own` is true, and stays in the clause.
 static ClauseRef shorten(Filter *filter, ClauseRef ref, int own) {
     Propagation *propagation = &filter->propagation;
     const Clause *clause = clause_at(&filter->clauses, ref);

@@ -4,7 +4,7 @@
 
 #include "filter.h"
 
-ClauseRef lemmas_for(Filter *filter, ClauseRef conflict);   // returns a conflict whose chain fits
-void lemmas_refute(Filter *filter);                         // if the root has a conflict
+ClauseRef lemmas_for(Filter *filter, ClauseRef conflict);   // a conflict whose chain fits a line
+void lemmas_refute(Filter *filter);                         // call if the root has a conflict
 
 #endif

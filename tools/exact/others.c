@@ -52,8 +52,8 @@ static void read_to(Other *other, uint64_t identity) {
     }
 }
 
-// Moves the clause with this identity from the other stream to `clauses`; 0 if there is none, or it
-// has been moved already.
+// Moves the clause with this identity from the other stream to `clauses`; 0 if there is no such
+// clause, or if it has been moved already.
 ClauseRef other_clause(Other *other, Clauses *clauses, uint64_t identity) {
     read_to(other, identity);
     ClauseRef ref = clauses_named(&other->clauses, identity);

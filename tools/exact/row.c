@@ -58,7 +58,7 @@ static double length_of(Row used) {
 }
 
 // A clause takes one word, and one for each literal. Lines are cheap, so there are enough for
-// clauses of half this length.
+// clauses of half the expected length.
 static Row split(uint64_t words, double length) {
     uint64_t lines = (uint64_t)((double)words / (1 + length / 2));
     lines = greater(lines, words > 0);

@@ -24,7 +24,7 @@ typedef struct {
 } Words;
 
 void words_read(Words *words, Line line);
-void words_check(const Words *words, size_t start, size_t end);     // stops if one isn't a number
+void words_check(const Words *words, size_t start, size_t end);  // stops if a word isn't a number
 void words_check_whole(const Words *words, Line line);  // stops if the proof ends within a step
 bool line_is_text(Line line);
 

@@ -53,7 +53,7 @@ public:
     bool awaits_sizes() const { return sizes >= 0; }
     void begin_round(Row row, const std::vector<int> &files);
 
-    void look();                        // looks whether lrupd has opened something
+    void look();                        // checks whether lrupd has opened something
     std::vector<pollfd> full_pipes() const;     // to wait until they have room
     // feeds the file up to this byte; true once all of that has been fed
     bool feed(size_t stream, uint64_t bytes, bool drop);
@@ -94,7 +94,7 @@ private:
 struct Front {
     // empty if no front has started this process
     std::string output_of_probe, output_of_lrupd, lrupd, formula, assumptions;
-    std::string stopped;  // describes the signal that ends the run without waiting
+    std::string stopped;  // describes the signal that ends the run; empty: none has come
     Checker probe;                      // an lrupd that reads the formula, and no stream
 
     void find(int &count, char **&words);  // from LRUP_FRONT, or from words, which it removes

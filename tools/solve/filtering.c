@@ -33,7 +33,7 @@ static bool in_memory;              // the stream is in memory, although there i
 // Errors. The first process reports the cause once this one has ended.
 
 static _Noreturn void leave(const char *cause) {
-    bool over = LOAD(own->shared->over);        // if so, the engine was killed within a step
+    bool over = LOAD(own->shared->over);        // if true, the engine was killed within a step
     if (cause && !over) snprintf(engine_status->cause, sizeof engine_status->cause, "%s", cause);
     engine_status->proof_ended = input.ended;
     _exit(cause && !over);

@@ -16,7 +16,7 @@ public:
     std::vector<Literal> assumed;
     std::vector<Cube> cubes;                    // without contradictory ones
     std::string formula_path, assume_path;      // to read them again
-    double reading = 0;                         // seconds that the formula took
+    double reading = 0;                         // seconds that reading the formula took
     std::string digests;                        // of both files, a line each, for the record
 
     explicit Inputs(const Options &given);

@@ -19,7 +19,7 @@ public:
 
     Keeping(Inputs &its_inputs, const Display &its_display) : inputs(its_inputs), display(its_display) {}
     void prepare(const std::string &program);           // before solving; program: lrupd
-    // refuses unwritable ones; has_record: the record's folder exists
+    // refuses outputs that can't be written; has_record: the record's folder exists
     void check_outputs(bool has_record) const;
     // Returns why the outputs aren't kept; empty if they are. lost: why the record is incomplete.
     std::string keep(bool is_proved, const std::string &lost, const Wait &wait) const;

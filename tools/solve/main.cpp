@@ -19,7 +19,7 @@
 
 // Overrides what the caller set. If SIGCHLD is ignored, no child can be waited for. A limit on the
 // size of files counts as a full disk. A terminal may stop a process that writes to it from a
-// background process group, which this one is in.
+// background process group, such as this process's.
 static void set_signals() {
     signal(SIGCHLD, SIG_DFL);
     signal(SIGXFSZ, SIG_IGN);

@@ -3,7 +3,7 @@
 // contents.
 //
 // Only MPI_Init, the broadcast before engines start, and MPI_Finalize wait for other processes; if
-// a process dies, mpirun ends all. The bytes on their way to others are bounded: above the bound
+// a process dies, mpirun ends all. The bytes on their way to others are bounded: above the bound,
 // nothing more is read from the Run.
 #define OMPI_SKIP_MPICXX 1      // leaves out C++ bindings that cause warnings
 #include <mpi.h>

@@ -14,7 +14,7 @@ namespace {
 
 const size_t LITERALS_OF_AN_ENGINE = 1500;
 
-// A gift in a message: this, and then the literals.
+// A gift in a message: this struct, and then the literals.
 struct Sent { uint32_t engine, identity, length; };
 
 }

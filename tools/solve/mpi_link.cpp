@@ -12,7 +12,7 @@ namespace {
 
 const int MESSAGE_PIPE = 1 << 20;
 const size_t MOST_WAITING = 1 << 22;            // bytes; if more wait, streams wait for room
-const double STARTING = 120;                    // seconds for all processes together
+const double STARTING = 120;                    // seconds in which all processes have to start
 
 }
 

@@ -141,7 +141,7 @@ struct Ended { int32_t ended, status; double seconds; };
 enum { ENDED_ROUND = 16, MAPPED_ROUND, COUNTS };        // indices of two counts
 
 struct Facts {
-    int32_t engine, answer, refuted, unwritten;         // engines count from 0
+    int32_t engine, answer, refuted, unwritten;         // engines are counted from 0
     Ended of_engine, of_filter;
     uint64_t counts[COUNTS];
     char cause[LONGEST_CAUSE];

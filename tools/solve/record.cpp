@@ -61,7 +61,7 @@ std::string without_ending(const std::string &name) {
     return name;
 }
 
-// round-R.stream-K, also compressed, round-R.sizes, or checkpoint-R.cnf.
+// round-R.stream-K (perhaps compressed), round-R.sizes, or checkpoint-R.cnf.
 bool is_of_a_round(const std::string &name) {
     auto is_number = [](const std::string &word) {
         return !word.empty() && word[0] != '0' && word.find_first_not_of("0123456789") == std::string::npos;
@@ -84,7 +84,7 @@ bool is_of_a_record(const std::string &name) {
     return is_of_a_round(is_unfinished ? name.substr(1, length - 5) : name);
 }
 
-// The paths of all files with a record's names, also of files that no run made.
+// The paths of all files with a record's names, including files that no run made.
 std::vector<std::string> files_of(const std::string &folder) {
     std::vector<std::string> paths;
     int file = openat(record_folder, ".", O_RDONLY | O_DIRECTORY | O_CLOEXEC);
@@ -353,7 +353,7 @@ bool claim(const Place &place) {
     return false;
 }
 
-// Removes the record's files, also compressed streams, except those in `kept`.
+// Removes the record's files, including compressed streams, except those in `kept`.
 void clear_record(const std::string &folder, const std::vector<std::string> &kept) {
     std::set<std::string> left, names = listed;
     for (const auto &form : PACKED)

@@ -204,7 +204,7 @@ void Run::look_at_team(size_t k) {
     team.engine.signal(SIGKILL);
 }
 
-// How an engine has ended, with a solver's last words.
+// How an engine has ended, with the last line of a solver's standard error.
 std::string Run::end_of(size_t k) const {
     const Team &team = teams[k];
     const char *words = teams.engine_status(k).last_words;
@@ -234,7 +234,7 @@ bool Run::look_at_end(size_t k) {
     static const char no_values[] = "it says 'satisfiable', but gives no assignment in lines v";
     std::string end = inputs.options.check ? "it can't be read" : end_of(k);
     tell_lost(k, unfounded ? no_values : end);
-    if (LOAD(facts.group)) kill(-LOAD(facts.group), SIGKILL);       // in case the engine couldn't
+    if (LOAD(facts.group)) kill(-LOAD(facts.group), SIGKILL);       // the solver may still run
     return true;
 }
 

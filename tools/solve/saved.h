@@ -61,7 +61,7 @@ private:
 
     Work now, next;                     // round 0: none
     std::string folder;                 // with a slash
-    size_t on_disk = 0;                 // how many of the digests' files
+    size_t on_disk = 0;                 // how many of the digests' files are on disk
     char *cause = nullptr;              // from the process
 
     void start();

@@ -18,7 +18,7 @@ namespace {
 // the system's limit for all pipes of a user is 1 << 26
 const int PROOF_PIPE = 1 << 20, ALL_PROOF_PIPES = 1 << 24;
 const int CROWDED_PIPE = 1 << 16;
-// the first engine runs alone for these seconds, plus READINGS times the time to read the formula
+// the first engine runs alone for this many seconds, plus READINGS times the formula's reading time
 const double MOMENT = 0.1;
 const int READINGS = 2;
 const uint64_t LEARNED = 1 << 18;   // literals
@@ -448,7 +448,7 @@ bool Teams::spill(size_t k) {
     return true;
 }
 
-// A filter that died may have left lines in the record that lrupd didn't get, and part of a line.
+// A filter that died may have left in the record lines that lrupd didn't get, and part of a line.
 void Teams::cut_streams() {
     look_at_record();
     for (size_t k = 0; k < list.size() && inputs.options.proofs && lost.empty(); k++)

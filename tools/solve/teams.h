@@ -12,7 +12,7 @@ struct Team {
     Child engine, filter;
     Pipe proof;
     uint64_t proof_size = 0;    // bytes of a regular file; 0: not known
-    // its file; a file in memory, for lines that can't be written to the first any more
+    // its file; a file in memory, for lines that can't be written to the first one any more
     int stream = -1, spare = -1;
     signed char *model = nullptr;
     std::string command;    // a solver's, or the proof's name
@@ -56,7 +56,7 @@ public:
     void start_others();
     double next_start() const;          // when the others start; INFINITY: never
     void look();                        // to be called often while they solve
-    void go_on();                       // resumes paused ones
+    void go_on();                       // resumes paused engines and filters
     bool end_streams(bool is_late);     // after a whole line; true once all filters have ended
     // chooses an engine that ends with the next round; returns why
     std::string choose_leaving(const std::string &cause);

@@ -103,7 +103,7 @@ void core_write(Proof *proof, Output *core, const char *path) {
     core_check(proof, core->path, path);
 }
 
-// Lines. They are read piece by piece, and each piece is written to each output.
+// Lines are read piece by piece, and each piece is written to each output.
 
 enum { PIECE = 1 << 16 };       // literals and hints
 

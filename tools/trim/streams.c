@@ -21,7 +21,7 @@ Line line_at(const Stream *stream, unsigned char *start) {
     return (Line){ start, end, true };
 }
 
-// Where a line's hints begin is kept in 4 bytes.
+// The place where a line's hints begin is kept in 4 bytes.
 
 void hints_keep(Stream *stream, uint64_t slot, unsigned char *place) {
     unsigned char **first = &stream->places[slot / SLOTS];

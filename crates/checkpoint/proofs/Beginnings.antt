@@ -1,5 +1,5 @@
 -- A text of a formula has a token `0` for each clause. A prefix of a printed text has fewer tokens
--- `0` than the number of clauses in its header.
+-- `0` than its header requires.
 use Rattle.std.proofs.Common.{◌≡◌, ◌≢◌, ◌≤◌, ◌<◌, ◌+◌, ◌-◌, ◌^◌, ◌++◌, ◌⊎◌, ℕ, zero, suc, ℤ, pos, negsuc, List, [], ◌∷◌, length}
 use Rattle.std.proofs.Common.{length-append, map, min, get_or, true, false, not, cond, refl, sym, ap, subst, ◌∙◌, inl, inr, arith}
 use Rattle.std.specs.Prelude.{codes, flat_map, ◌==◌, filter}
@@ -314,8 +314,8 @@ zero_alone zero back fits is = (refl, cc (decimal_digit 0 (omega arith)))
 zero_alone (suc n) back fits is = absurd (omega (arith, first_decimal (suc n) (omega arith) fits, ap (λ (t : List ℕ). get_or t 0 0) is))
 
 module _ (vars count : ℕ) (few_vars : vars < 2 ^ 64) (few : count < 2 ^ 64) where
-  -- if a header that is cut is still read as a header, no other line has tokens, and the count is 0
-  -- only if it was 0 before the cut and only the LF is missing
+  -- if a header that is cut is still read as a header, no other line has tokens; and if the count
+  -- that is read is 0, the whole header's count is 0 and only the LF is missing
   header_part : (front back : List ℕ) → header_line vars count ≡ front ++ back → 0 < length back
       → (v n : ℕ) (lines : List (List (List ℕ))) → token_lines front ≡ (codes "p" ∷ codes "cnf" ∷ decimal v ∷ decimal n ∷ []) ∷ lines
       → (lines ≡ []) × (n ≡ 0 → (count ≡ 0) × (length back ≡ 1))

@@ -11,7 +11,7 @@ use Rattle.checkpoint.specs.Live.{Entry, clauses_of, entries_of, entry_of}
 use Rattle.checkpoint.specs.Printing.{printed}
 
 module _ (p : CallerView) (vars : ℕ) where
-  -- a formula over these variables may have the clause of the clip at this index
+  -- the clause of the clip at this index is allowed in a formula over these variables
   pub clause_at_clip : (clips : List ClipValue) (k : ℕ) (d : ClipValue) → k < length clips
       → AllByRecursion (IsFormulaClause vars) (clauses_of (entries_of p clips)) → IsFormulaClause vars (clip_clause p (get_or clips k d))
   clause_at_clip [] k d within all = absurd (omega (arith, within))
@@ -32,7 +32,7 @@ module _ (p : CallerView) (vars : ℕ) where
       next ∙ ap (λ (h : Cnf). record h { clauses = h.clauses ++ clip_clause p (get_or clips k d) ∷ [] }) before
       ∙ ap (λ (cs : List Clause). record { vars = vars; clauses = cs }) (sym more)
 
--- a formula over these variables may have derived clauses that are short enough
+-- derived clauses that are short enough are allowed in a formula over these variables
 pub derived_clauses : (f : Cnf) (vars : ℕ) (cs : List Clause) → vars ≡ f.vars → AllByRecursion (IsDerived f) cs
     → AllByRecursion (λ c. length c ≤ max_clause_literals) cs → AllByRecursion (IsFormulaClause vars) cs
 derived_clauses f vars [] same derived short = tt

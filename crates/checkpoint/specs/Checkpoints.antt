@@ -22,7 +22,7 @@ pub record IsCheckpoint (original : Cnf) (bytes : List ℕ) : Type 0 where
   pub entails : Entails original formula
 
 -- The bytes that were written are a checkpoint of the original. If `next` has a formula, it is the
--- checkpoint's.
+-- checkpoint's formula.
 pub record WritesCheckpoint (original : Cnf) (before after : Option (List ℕ))
     (next : Option Cnf) : Type 0 where
   pub bytes : List ℕ
@@ -68,7 +68,7 @@ last_file bytes (next ∷ more) = last_file next more
 abbrev pub IsUnsatisfiableText : List ℕ → Type 0
 IsUnsatisfiableText bytes = (formula : Cnf) × IsFormulaText bytes formula × IsUnsatisfiable formula
 
--- the file is a text of a formula, and no assignment satisfies it together with each literal of the
+-- the file is a text of a formula, and no assignment satisfies it together with all literals of the
 -- cube
 abbrev pub IsUnsatisfiableTextUnder : CubeValue → List ℕ → Type 0
 IsUnsatisfiableTextUnder cube bytes =

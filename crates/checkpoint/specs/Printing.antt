@@ -11,7 +11,7 @@ abbrev pub header_line : ℕ → ℕ → List ℕ
 header_line vars count =
     codes "p cnf " ++ decimal vars ++ codes " " ++ decimal count ++ codes "\n"
 
--- a comment with the clause's identity, unless the identity is the clause's place
+-- a comment with the clause's identity, unless the identity is the clause's number in the file
 unfoldable pub note : ℕ → ℕ → List ℕ
 note id place = if id == place then [] else codes "c id " ++ decimal id ++ codes "\n"
 
@@ -19,16 +19,16 @@ note id place = if id == place then [] else codes "c id " ++ decimal id ++ codes
 unfoldable pub clause_line : Clause → List ℕ
 clause_line clause = flat_map (λ l. signed_decimal l ++ codes " ") clause ++ codes "0\n"
 
--- the note of a clause at a place, and the clause's line
+-- the note and the line of the clause with number `place`
 abbrev pub entry_text : ℕ → Entry → List ℕ
 entry_text place entry = note entry.id place ++ clause_line entry.clause
 
--- the notes and lines of clauses, the first of which has this place
+-- the notes and lines of clauses, the first of which has number `place`
 abbrev pub entries_text : ℕ → List Entry → List ℕ
 entries_text place [] = []
 entries_text place (entry ∷ entries) = entry_text place entry ++ entries_text (place + 1) entries
 
--- the header, and the text of each clause; the first clause has place 1
+-- the header, and the text of each clause; the first clause has number 1
 unfoldable pub formula_text : ℕ → List Entry → List ℕ
 formula_text vars entries = header_line vars (length entries) ++ entries_text 1 entries
 

@@ -35,7 +35,7 @@ synced_all u v [] (y ∷ ys) synced = absurd (let same : y ∷ ys ≡ [] = synce
 synced_all u v (x ∷ xs) [] synced = absurd synced
 synced_all u v (x ∷ xs) (y ∷ ys) synced = (synced.0, synced.1, synced_all synced.0 v xs ys synced.2)
 
--- passes of a store are still of the store after one of them is replaced by another pass of the
+-- passes of a store still belong to the store after one of them is replaced by another pass of the
 -- store
 pub are_of-set : (store : StoreValue) (i : ℕ) (ps : List PassValue) (p : PassValue) → store_of p ≡ store → AreOf store ps
     → AreOf store (set ps i p)

@@ -22,13 +22,13 @@ one_pass a b same = cc
 one_seat : (a b : SeatValue) → Some a ≡ Some b → a ≡ b
 one_seat a b same = cc
 
--- if each seat's pass is of the store, all passes are of the store
+-- if each seat's pass belongs to the store, all passes belong to the store
 are_of : (store : StoreValue) (seats : List SeatValue)
     → ((k : ℕ) (seat : SeatValue) → slice_get seats k ≡ Some seat → store_of (pass_value seat) ≡ store) → AreOf store (map pass_value seats)
 are_of store [] each = tt
 are_of store (seat ∷ seats) each = (each 0 seat refl, are_of store seats (λ k other here. each (suc k) other here))
 
--- about the seats that the row gives out at the opening
+-- the seats that the row gives out at the opening
 module _ (row : Row) (f : Cnf) (p : LayoutValue) (seats : List SeatValue) (count : length seats ≡ p.streams)
     (given : (s : ℕ) → IsStream p s → slice_get seats (s - 1) ≡ Some (opening_seat row f p s)) where
   -- the seat at index k is the opening seat of stream k + 1

@@ -21,8 +21,8 @@ impl Store {
         let Some((first, others)) = passes.split_first_mut() else {
             return;
         };
-        // After the first round the first pass has seen all that any pass has; the second round
-        // passes that on to all.
+        // After the first round, the first pass has seen all that any pass has seen; the second
+        // round shares this with all the others.
         for _round in 0..2u32 {
             self.meet_each(first, others);
         }

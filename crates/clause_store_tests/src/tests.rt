@@ -294,7 +294,8 @@ fn spend_room(rt: &impl Abort, store: &Store, pass: &mut Pass)
     same(rt, (again, store.room(pass)), (Some(Published::Taken), 0));
 }
 
-/// Reads back the clauses that `spend_room` published and one of the formula, literal by literal.
+/// Reads back, literal by literal, the clauses that `spend_room` published and one clause of the
+/// formula.
 fn read_all(rt: &impl Abort, store: &Store, pass: &mut Pass)
     requires { IsPassAt four store.now pass.old }
 {
@@ -342,7 +343,7 @@ fn read_one<M: ClauseMap>(map: &mut M, id: Id) -> Option<Lit>
     Some(map.literal(&clip, 0))
 }
 
-/// The reply to a client's publish, and the literal that it read.
+/// The reply to a client's publish, and the literal that the client read.
 type ClientFound = (Option<Published>, Option<Lit>);
 
 /// A client of any clause map: it publishes `2` under its own identity, and reads the other

@@ -112,7 +112,7 @@ module _ (its : Effects) (given : CommandLine) (cube : CubeValue) (formula : Cnf
     finished = finished;
   }
 
-  -- the rounds end if the words ask for none
+  -- the rounds end if the words don't ask for rounds
   pub ends_alone : (last : CheckedRound) (next : Option Cnf) (after : its.State) → rounds_of given.next ≡ None → SoFar last next after
       → EndsAt its given cube formula first last after
   ends_alone last next after once so_far = ends_so last next after after so_far (inl (inl once, refl))

@@ -184,7 +184,7 @@ module _ (files : FilesView) (words : List Text) (after : files.its.State) (out 
       never_unwritten files words after ends.number (subst (λ (f : CommandFault). IsCauseIn files words ends.number f after)
       (seven_is ends.fault (sym ends.status_is ∙ is)) ends.cause)
 
-  -- in any case, the status is 7 exactly if the sink failed
+  -- with a report or with a fault, the status is 7 exactly if the sink failed
   pub all_unwritten : ProgramEnds files words after out err status → IsTrue out.failed ↔ (status ≡ 7)
   all_unwritten (inl report) = (
     (λ failed. report.status_is ∙ has_7 out.failed report.last.unsaved report.last.verdict failed),

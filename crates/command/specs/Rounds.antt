@@ -28,8 +28,8 @@ use Rattle.command.specs.Commands.{AreChecked, IsUntouched, SaysOfRound, SinkCha
 abbrev pub HaveEnded : List Report → Type 0
 HaveEnded reports = AllByRecursion (λ report. report.ending ≡ endings.Ended) reports
 
--- The program created a file at the path, tried to save to it, and closed it. If its contents are
--- known, it was empty at first.
+-- The program created a file at the path, tried to save the checkpoint to it, and closed it. If its
+-- contents are known, it was empty at first.
 pub record LeavesFile (its : Effects)
     (Saves : Result (Option Cnf) SaveFault → its.Output → its.Output → Type 0) (before : its.State)
     (path : Text) (unsaved : Option SaveFault) (next : Option Cnf)

@@ -42,8 +42,8 @@ use std::time::Clock;
 /// 6. It writes the report of the last round to `out`.
 ///
 /// If there is no report, nothing goes to `out`, and the cause goes to `err`. If the report can't
-/// be written, `out` has a prefix of it, and `err` gets a message. The call blocks as long as an
-/// operation on a file does.
+/// be written, `out` contains a prefix of it, and `err` gets a message. The call blocks as long as
+/// an operation on a file does.
 ///
 /// The statuses:
 ///

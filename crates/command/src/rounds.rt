@@ -170,8 +170,8 @@ pub(crate) fn begin_and_check<T: Threads + Wait + Sync, C: Clock + Sync, F: Mach
         line,
         formula: bytes,
     } = asked;
-    // Laws, with no effect at run time: if no assignment satisfies a checkpoint, none satisfies the
-    // formula whose checkpoint it is.
+    // Laws, with no effect at run time: if no assignment satisfies a round's checkpoint, none
+    // satisfies the round's formula.
     refutes_back();
     refutes_back_under();
     let begun = match begin(threads, alloc, &line, bytes, files) {

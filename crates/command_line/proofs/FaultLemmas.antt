@@ -22,7 +22,7 @@ rest_empty : (a b : Kinds) → or_else a b ≡ [] → b ≡ []
 rest_empty [] b e = e
 rest_empty (k ∷ ks) b e = cc
 
--- if nothing is missing, what is required is given
+-- if no required argument is missing, FORMULA and STREAM are given
 both_given : (formula stream has : Bool)
     → check_kinds (not has && (false && true)) (not has && false) (not (false && has) && (not formula || (not stream || false))) ≡ []
     → (formula ≡ true) × (stream ≡ true)

@@ -44,9 +44,9 @@ stream_rule = record (new_rule (codes "STREAM")) {
 }
 
 -- The command, with its arguments in the order of the help; its words don't begin with the
--- program's name. Arguments without `long` are positional. The three numbers say how often a vacant
--- hint is fetched again, how many identities a stream has, and how many literals its clauses may
--- have together.
+-- program's name. Arguments without `long` are positional. The three numbers say how many times a
+-- vacant hint is fetched again, how many identities a stream has, and how many literals its clauses
+-- may have together.
 abbrev pub lrupd : App
 lrupd = record {
   top = record (new_shape (codes "lrupd")) {

@@ -32,7 +32,7 @@ pub fn program<'a>(alloc: Global) -> Result<Command<'a>, AllocError>
     command.arg(stream(alloc))
 }
 
-/// The command with the options that have a number.
+/// The command with the options that take a number.
 fn with_numbers<'a>(alloc: Global) -> Result<Command<'a>, AllocError>
     ensures { IfOk result (λ command. app_of command ≡ with_numbers) }
 {

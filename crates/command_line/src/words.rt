@@ -16,7 +16,7 @@ use thiserror::Error;
 /// What the words ask for.
 #[derive(Debug, Drop)]
 pub struct CommandLine<'a> {
-    /// How often a vacant hint is looked up again, at most 1,000,000.
+    /// How many times a vacant hint is looked up again: at most 1,000,000.
     pub tries: u64,
     /// The identities of each stream, at most 268,435,456.
     pub lines: u64,
@@ -155,7 +155,7 @@ fn matches_in<'a>(alloc: Global, words: &'a [&str]) -> Result<ArgMatches<'a>, Cl
     program.try_get_matches_from_mut(words)
 }
 
-/// The number of an option, or its default.
+/// The number given with an option, or the option's default.
 fn option_number(matches: &ArgMatches<'_>, name: &str, default: u64) -> u64
     requires { HasNumber name.now (rows_of (found_of matches.now)) }
     ensures { result ≡ option_number name.now default (rows_of (found_of matches.now)) }
@@ -209,7 +209,7 @@ fn next_of<'a>(matches: &ArgMatches<'a>) -> Option<Next<'a>>
     }
 }
 
-/// The path of an option, if the words have the option.
+/// The path given with an option, if the words have the option.
 fn file_of<'a>(matches: &ArgMatches<'a>, name: &str) -> Option<&'a str>
     ensures { option_map (λ path. path.now) result
         ≡ first_of name.now (rows_of (found_of matches.now)) }

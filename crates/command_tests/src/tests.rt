@@ -26,7 +26,7 @@ mod shelf;
 mod status_0;
 mod watching;
 
-/// What tests of the program need of the machine.
+/// What tests of the program need from the machine.
 trait Host: Threads + Wait + Sync + Clock + Abort + AllocGlobal {}
 
 impl<T: Threads + Wait + Sync + Clock + Abort + AllocGlobal> Host for T {}

@@ -1,6 +1,7 @@
 -- The first fault, in byte order, of a file that isn't a text of a formula: the header is judged as
 -- a whole, and the tokens after it one by one. If one token, or the header, has several faults, the
--- one that DimacsFault lists first counts. (The faults and their order are this project's own.)
+-- one that counts is the one that DimacsFault lists first. (The faults and their order are this
+-- project's own.)
 use Rattle.std.specs.Prelude.{◌≡◌, ◌⊎◌, ◌≤◌, ◌<◌, ℕ, ℤ, nat_abs, Some, None, List, [], ◌∷◌, ◌++◌, codes, length}
 use Rattle.lrup_model.specs.Literal.{IsLiteral, max_variable}
 use Rattle.lrup_model.specs.Formula.{max_clauses, max_clause_literals}

@@ -54,7 +54,7 @@ fn next_run(line: &[u8]) -> (&[u8], &[u8])
 }
 
 /// The number that a token spells without a sign; `None` if the token spells no such number. For a
-/// number above `MAX_VARIABLE` the result is any number above that limit.
+/// number above `MAX_VARIABLE` the result may be any number above that limit.
 fn count(text: &[u8]) -> Option<u32>
     requires { first_run text.now ≡ text.now }
     ensures { MatchOption result (is_count text.now ≡ false) (ReadsCount text.now) }

@@ -1,5 +1,5 @@
-//! Reads a formula in DIMACS CNF: the result is exactly the formula that the text says, or the
-//! first fault of the text.
+//! Reads a formula in DIMACS CNF: the result is exactly the text's formula, or the text's first
+//! fault.
 #![tactic(auto)]
 
 ghost use Rattle.std.specs.Prelude.{◌≢◌, IfOk, IfErr};

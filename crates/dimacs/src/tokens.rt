@@ -84,7 +84,7 @@ fn skip_digits(text: &[u8]) -> Option<&[u8]>
 }
 
 /// Reads a number that begins with a digit from 1 to 9, up to the end of its token, and returns the
-/// number and the rest. For a number above `MAX_VARIABLE` the result is any number above that
+/// number and the rest. For a number above `MAX_VARIABLE` the result may be any number above that
 /// limit. `None` if the token has another spelling.
 pub(crate) fn numeral(text: &[u8]) -> Option<(u32, &[u8])>
     ensures { MatchOption result (is_numeral (first_run text.now) ≡ false)

@@ -114,7 +114,7 @@ fn repeated(alloc: Global, header: &str, text: &str, count: usize) -> Result<Str
     format!(in alloc; "{header}{texts}")
 }
 
-/// A header, a text and how often it is repeated, and why the whole is refused.
+/// A header, a text, how many times the text is written, and why the whole is refused.
 static LONG: [(&str, &str, usize, &str); 3] = [
     ("p cnf 1 1\n", "1\n", 1_048_575, "open clause"),
     ("p cnf 1 1\n", "1\n", 1_048_576, "limit"),

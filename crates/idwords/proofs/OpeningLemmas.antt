@@ -1,5 +1,5 @@
 -- Lemmas about the row at the opening: the loops that make its words, and the rule that these words
--- meet.
+-- satisfy.
 use Rattle.std.proofs.Common.{◌≡◌, ℕ, zero, suc, ◌+◌, ◌-◌, ◌*◌, ◌<◌, ◌≤◌, cond, eqb, List, [], ◌∷◌, ◌++◌, length, get_or, take, replicate}
 use Rattle.std.proofs.Common.{slice_index, slice_get, Some, refl, sym, ap, subst, ◌∙◌, inl, inr, arith, append-nil, append_assoc}
 use Rattle.std.proofs.Common.{length-append, eq-eqb, ne_eqb}

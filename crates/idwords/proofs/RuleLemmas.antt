@@ -46,7 +46,7 @@ pub between : (seen more mine : History) (s : ℕ) → own seen s ≡ mine → o
 between seen more mine s here all =
     others_from_own more s (own_rest (own seen s) (own more s) mine (sym here) (sym (own-append seen more s) ∙ all))
 
--- a thread state's calls spent what its stream has spent in the whole log
+-- a thread state's calls spent as much as its stream did in the whole log
 pub spent_log : (log mine : History) (s : ℕ) → own log s ≡ mine → spent s mine ≡ spent s log
 spent_log log mine s all = ap (λ (h : History). spent s h) (sym all) ∙ spent-own s log
 

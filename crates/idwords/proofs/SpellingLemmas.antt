@@ -33,7 +33,7 @@ words_spent-append s g h = ap (sum_by words_taken) (own-append g h s) ∙ sum_by
 pub words_spent_one : (s : ℕ) (e : Event) → stream_of e ≡ s → words_spent s (e ∷ []) ≡ words_taken e
 words_spent_one s e is = ap (sum_by words_taken) (own-mine e [] s is) ∙ omega (arith, sum_by-cons words_taken e [])
 
--- what a stream's own calls spent is what it spent in the whole history
+-- a stream's own calls spent as many words as the stream did in the whole history
 pub words_spent-own : (log mine : History) (s : ℕ) → own log s ≡ mine → words_spent s mine ≡ words_spent s log
 words_spent-own log mine s all = ap (λ (h : History). words_spent s h) (sym all) ∙ ap (sum_by words_taken) (own-own log s)
 
@@ -108,7 +108,7 @@ once-snoc (y ∷ ys) x once none =
 
 -- The clauses of the map are what is stored
 
--- each slot's clause is stored, once
+-- each slot's clause is stored exactly once
 pub record SpellsState (m : State) (xs : List Spelling) : Type 0 where
   pub once : IsOncePerIdentity xs
   pub slots : (id : ℕ) → Spells (m id) (stored_in xs id)

@@ -17,7 +17,7 @@ pub record SeatValue : Type 0 where
 
 -- What one stream knows: its view, its top, and its draft, i.e. the literals stored from the top
 -- on. A seat has one thread state; while two seats meet, one of them has both, and, at the opening,
--- the first seat has all.
+-- the first seat has all of them.
 pub record ThreadState : Type 0 where
   pub view : View
   pub top : ℕ

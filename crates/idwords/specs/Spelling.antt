@@ -1,6 +1,6 @@
--- Where in the row the clauses of a history are stored, and their literals (this project's own):
--- first the formula's clauses, one after the other, then each stream's clauses in the stream's
--- room, in the order in which they were published. Each clause begins in a new word.
+-- Where in the row, and with which literals, the clauses of a history are stored (this project's
+-- own): first the formula's clauses, one after the other, then each stream's clauses in the
+-- stream's room, in the order in which they were published. Each clause begins in a new word.
 use Rattle.std.specs.Prelude.{◌≡◌, ◌≤◌, ◌+◌, ◌-◌, ◌*◌, ◌++◌, ℕ, List, [], ◌∷◌, length, Some}
 use Rattle.std.specs.List.{sum_by}
 use Rattle.lrup_model.specs.Clause.{Clause}

@@ -71,7 +71,7 @@ fn seats_of(
 /// so a clause of n literals takes (n + 1) / 2 words: with a word for each literal there is enough
 /// room even if all clauses are unit clauses. Words that aren't needed stay 0: the length of the
 /// row follows from the layout, which doesn't say how long each clause is. In contracts the row is
-/// only a name.
+/// only the name of its table.
 #[derive(Drop)]
 pub struct Row {
     table: WordTable,

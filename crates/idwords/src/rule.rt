@@ -32,8 +32,8 @@ pub struct Plan {
 }
 
 /// The rule: some legal history leads to exactly these words. The history that each stream has seen
-/// is a prefix of that history, and has all calls of the stream, in the order in which the stream
-/// made them. In a legal history each reply is correct, given the earlier calls.
+/// is a prefix of that history, and contains all calls of the stream, in the order in which the
+/// stream made them. In a legal history each reply is correct, given the earlier calls.
 pub struct RowInvariant;
 
 impl TableRule<u8, Knowledge, Plan> for RowInvariant {
@@ -48,7 +48,7 @@ impl TableRule<u8, Knowledge, Plan> for RowInvariant {
 pub type WordTable = Table<u8, Knowledge, Plan, RowInvariant, Global>;
 
 /// The right to take steps on the table, which `atomic_table` calls a seat. A `Seat` of this crate
-/// has such a token and a few numbers. The steps are calls of the table's field `shared`.
+/// has such a token and a few numbers. The steps are method calls on the table's field `shared`.
 pub type StepToken = atomic_table::Seat<u8, Knowledge>;
 
 /// The load of a fetch.

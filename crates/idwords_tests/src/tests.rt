@@ -202,7 +202,7 @@ fn the_row_has_its_words(rt: HostRuntime) -> Result<(), Fail> {
     Ok(())
 }
 
-/// The words of the row after a clause of one literal and then a clause of two were published.
+/// The words of the row after a clause of one literal and then one of two have been published.
 static ONE_AND_TWO: [u64; 18] = [
     0, 29360137, 33554441, 37748745, 41943049, 62914565, 67108873, PAIR_1_2, PAIR_N1_2, PAIR_1_N2,
     PAIR_N1_N2, 0, 0, 0, 0, 4, PAIR_1_2, 0,

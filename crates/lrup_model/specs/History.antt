@@ -33,7 +33,7 @@ LegalFrom formula layout slots (event ∷ history) =
     Answers slots event × IsAllowed formula layout event
     × LegalFrom formula layout (after slots event) history
 
--- A legal history: each event is allowed, and has the reply of a map of one thread that starts with
+-- A legal history: each event is allowed, and has the reply of a one-thread map that starts with
 -- the formula's clauses; and each stream publishes at most as many literals as it has room for.
 pub record IsLegal (formula : Cnf) (layout : LayoutValue) (history : History) : Type 0 where
   pub events : LegalFrom formula layout (opening formula) history

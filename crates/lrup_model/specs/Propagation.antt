@@ -24,6 +24,7 @@ Refutes falses (clause ∷ next ∷ hinted) =
     (literal : ℤ) × IsUnit falses clause literal
     × Refutes (falses ++ neg_ℤ literal ∷ []) (next ∷ hinted)
 
--- the clause is not a tautology, and the hinted clauses refute that all its literals are false
+-- the clause is not a tautology, and the hinted clauses refute the assumption that all its literals
+-- are false
 abbrev pub Accepts : Clause → List Clause → Type 0
 Accepts clause hinted = (¬ IsTautology clause) × Refutes clause hinted

@@ -96,7 +96,7 @@ pub enum Published {
     /// The clause is now live under the identity, and the caller's room has shrunk by the clause's
     /// length.
     Done,
-    /// A clause had already been published under the identity. Nothing changed.
+    /// A clause has already been published under the identity. Nothing changed.
     Taken,
 }
 

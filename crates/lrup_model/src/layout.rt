@@ -20,7 +20,7 @@ pub enum Owner {
     Outside,
 }
 
-/// Why some sizes have no layout. If several faults hold, the first in this order is reported.
+/// Why some sizes have no layout. If several faults apply, the first in this order is reported.
 #[derive(Clone, Copy, Debug, PartialEq, Eq)]
 pub enum LayoutFault {
     /// More than 16,777,215 variables.
@@ -82,7 +82,7 @@ impl Layout {
 
     /// The layout for a formula with this many variables, clauses and literals, for this many
     /// streams, and for this many identities (`lines`) and literals (`room`) per stream. The fault
-    /// is the first that holds, in the order in which `LayoutFault` lists them.
+    /// is the first that applies, in the order in which `LayoutFault` lists them.
     pub fn new(
         vars: u64,
         clauses: u64,
@@ -93,7 +93,7 @@ impl Layout {
     ) -> Result<Layout, LayoutFault>
         ensures layout { let layout = layout_value vars clauses literals streams lines room in
             IfOk result (λ given. (given ≡ layout) × IsLayout layout) }
-        // The tests are in the order of the faults, so the result is the first fault that holds.
+        // The tests are in the order of the faults, so the result is the first fault that applies.
         ensures fault { IfErr result
             (IsFault (layout_value vars clauses literals streams lines room)) }
     {

@@ -120,7 +120,7 @@ text_read text literals count rest so is = record {
   is = so.is ∙ ap (λ t. literals_text literals ++ t) is ∙ words_end signed_decimal literals (line_feed ∷ []);
 }
 
--- What it means for a whole text that its literals are kept, or aren't.
+-- What follows for a whole text if its literals are kept, and if they aren't.
 
 module _ {T : Type 0} (items : T → List ℤ) (vars : ℕ) (literals : List ℤ) (text : List ℕ) (is : IsLiteralsText literals text) where
   pub kept_text : (r : Result T CubeFault) → MatchResult r (λ kept. AreKept vars literals (items kept)) (AreNotKept vars literals)

@@ -219,7 +219,7 @@ number_space deletes k j few = record {
   from = λ signed limits lifted rest h. digits_from_space limits k _ rest (omega (arith, lifted.digits)) h;
 }
 
--- Blocks: a byte after which no rest makes a line, whatever the limits.
+-- `Blocks`: no rest after the byte makes a line, whatever the limits.
 
 -- the byte isn't a digit 1 to 9
 abbrev pub NoFirst : ℕ → Type 0

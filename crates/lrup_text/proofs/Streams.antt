@@ -25,12 +25,12 @@ use Rattle.lrup_text.proofs.Numerals.{decimal_byte, decimal_one, power_more, pow
 use Rattle.lrup_text.proofs.Rests.{same_head, same_tail}
 use Rattle.lrup_text.proofs.TextLaws.{fits_within, words_apart, empty_pending}
 
--- A line has one text.
+-- A line has only one text.
 
 pub one_text : OneText
 one_text line bytes others a b = a.1 ∙ sym b.1
 
--- A text spells one line.
+-- A text spells only one line.
 
 numbers_same : (ms ns : List ℕ) → AllByRecursion IsStreamNumber ms → AllByRecursion IsStreamNumber ns
     → map decimal ms ≡ map decimal ns → ms ≡ ns

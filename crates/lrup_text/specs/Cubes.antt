@@ -1,4 +1,4 @@
--- The texts of cubes, in the words and within the limits of a stream's lines (this project's own):
+-- The texts of cubes, with the words and the limits of a stream's lines (this project's own):
 --     cube = *( lit SP ) "0" LF
 -- A file is the text of a cube if it is one such line and nothing more.
 use Rattle.std.specs.Prelude.{◌≡◌, ◌⊎◌, ◌↔◌, ◌≤◌, ◌<◌, ◌^◌, ℕ, ℤ, false, List, [], ◌∷◌, ◌++◌, codes, length, map, flat_map}

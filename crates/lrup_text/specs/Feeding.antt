@@ -1,5 +1,6 @@
--- What a reader of lines gives for a piece of a stream, and its state afterwards. The state of a
--- reader is `Ok` with the part of a line that it has read, or `Err` with the fault that it gave.
+-- What a reader of lines gives for a piece of a stream, and the reader's state afterwards. The
+-- state of a reader is `Ok` with the part of a line that it has read, or `Err` with the fault that
+-- it gave.
 use Rattle.std.specs.Prelude.{◌≡◌, ℕ, ◌<◌, ◌≤◌, List, [], ◌++◌, length, take, Result, Ok, Err, IfOk}
 use Rattle.lrup_text.specs.declared.LineFault.{LineFault}
 use Rattle.lrup_text.specs.declared.LineFault.TheVariants.{Truncated}

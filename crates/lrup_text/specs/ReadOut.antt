@@ -1,4 +1,4 @@
--- What is known of the sources of a type, and the reads of one source up to the last.
+-- What is known of the sources of a type, and the reads of one source up to its last read.
 use Rattle.std.specs.Prelude.{◌≡◌, ◌<◌, ℕ, Bool, true, false, List, [], Option, Some, None}
 use Rattle.std.specs.Io.KnownBytes.{IsAtEnd}
 use Rattle.lrup_text.specs.declared.device.StreamEnd.{StreamEnd}

@@ -22,7 +22,7 @@ const LETTER_D: u8 = b'd';
 
 const LETTER_I: u8 = b'i';
 
-/// What was found in a line that was read at once, besides its lists.
+/// What was found in a line that was read as a whole, besides its lists.
 #[derive(Clone, Copy)]
 pub struct Whole {
     /// The line's first number.

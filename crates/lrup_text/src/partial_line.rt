@@ -56,7 +56,7 @@ pub enum ByteStep {
     Refused(LineFault),
 }
 
-/// A line as far as it was read.
+/// The part of a line that has been read so far.
 #[derive(Drop)]
 pub struct PartialLine {
     /// What may come next.
@@ -93,7 +93,7 @@ pub struct BytesRead {
 }
 
 impl PartialLine {
-    /// A line of which nothing was read, with all the memory that it may need.
+    /// A line of which no byte was read, with all the memory that it may need.
     pub fn new(alloc: Global) -> Result<PartialLine, AllocError>
         ensures { IfOk result (λ line. IsPartialLine line × (pending line ≡ [])) }
     {
@@ -115,7 +115,7 @@ impl PartialLine {
         })
     }
 
-    /// Whether nothing of a line was read.
+    /// Whether no byte of a line was read.
     pub fn is_empty(&self) -> bool
         requires { IsPartialLine self.now }
         ensures { IsTrue result ↔ (pending self.now ≡ []) }
@@ -327,7 +327,7 @@ impl PartialLine {
             b' ' => {
                 self.lead = self.number;
                 // `deletes` may still have the previous line's value: only a `0` or `d` sets it,
-                // and it isn't read before.
+                // and it isn't read before that.
                 self.imports = false;
                 self.literal_count = 0;
                 self.identity_count = 0;

@@ -170,7 +170,7 @@ module _ {R : Type 0} (reading : SourceView R) (c : Check reading) where
         | inr past ↦ absurd (omega (arith, past.0, within, observed_length))
       ]
 
-  -- the entry of an observation is what the file at the stream's path is known to hold
+  -- an observation's `entry` is what the file at the stream's path is known to hold
   pub entry_at : (s : ℕ) (observation : InputObservation) (path : Text) (whole : List ℕ) → IsOfStream observed_of s observation
       → IsOfStream c.paths s path → c.contents path ≡ Some whole → observation.entry ≡ Some whole
   entry_at s observation path whole at names contents =

@@ -23,7 +23,8 @@ use Rattle.outcome_laws.proofs.CheckLemmas.{Check, check_of, run_of, observation
 abbrev pub OneFormula : Type 0
 OneFormula = (bytes : List ℕ) (one other : Cnf) → IsFormulaText bytes one → IsFormulaText bytes other → one ≡ other
 
--- reports that differ at most about clauses within a cube are printed as the same line
+-- reports that differ at most in what they say about clauses within a cube are printed as the same
+-- line
 same_line : (s : ℕ) (report other : Report) → SayTheSame report other → stream_line s report ≡ stream_line s other
 same_line s report other same =
     ap (λ (n : ℕ). codes "c stream " ++ decimal s ++ codes ": " ++ decimal n ++ codes " added, " ++ decimal report.deleted

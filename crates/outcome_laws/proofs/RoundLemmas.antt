@@ -363,7 +363,7 @@ module _ (Mode : Bool → Type 0) (Before Last : RoundAsk) (Why : Reason) (at : 
           | inr (inr lost) ↦ inr lost
         ]
 
-    -- the report says 'unsatisfiable' and the status is 0, or the report falls short of that
+    -- the report says 'unsatisfiable' and the status is 0, or `Short` says why not
     short_so : (ends : EndsWithReport files words after out err status)
         → (unsaved : Option SaveFault) → ends.last.unsaved ≡ unsaved → (verdict : Verdict) → ends.last.verdict ≡ verdict
         → ((ends.last.verdict ≡ Unsatisfiable) × (0 ≡ report_status false unsaved verdict))

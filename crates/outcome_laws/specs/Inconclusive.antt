@@ -16,8 +16,8 @@ use Rattle.run_files.specs.Asked.{Text, assumed_at, created_path, run_params_by}
 use Rattle.command.specs.Rounds.{EndsWithFault, EndsWithReport, HaveEnded, Round}
 
 -- Some stream of the round was stopped, for a reason that the stream's parameters excuse. In a
--- round before the last, this may be any stream, in any line; in the last, it is stream s, in one
--- of its first `count` lines.
+-- round before the last, this may be any stream, in any line; in the last one, it is stream s, in
+-- one of its first `count` lines.
 pub record HasStopped {its : Effects} {given : CommandLine} {cube : CubeValue}
     (Why : StreamParams → Excuse) (s count last : ℕ) (round : Round its given cube) : Type 0 where
   pub stream : ℕ

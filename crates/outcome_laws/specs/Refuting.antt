@@ -1,4 +1,5 @@
--- Runs of the program in sequence, each on what the previous one saved (this project's own).
+-- Runs of the program in sequence, each starting from what the previous one saved (this project's
+-- own).
 use Rattle.std.specs.Prelude.{◌≡◌, ℕ, List, [], ◌∷◌, Option, None, Some, Result, Ok, Err}
 use Rattle.lrup_model.specs.Cube.{CubeValue}
 use Rattle.lrup_model.specs.Event.{History}

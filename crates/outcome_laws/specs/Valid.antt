@@ -112,10 +112,10 @@ pub record IsProvided (Before Last : RoundAsk) (last : ℕ) (its : Effects) (fol
       × IsAskedOf Before Last last number formula sizes (its.contents sized)
       (stream_paths folder number sizes.streams)
 
--- The words ask well, and for rounds in a folder unless round 1 is the last one. The number of the
--- last round is from 1 to 2 ^ 64 - 2. The streams of round 1 are as required. And each later round
--- up to the last is provided for, whatever course a run of these words takes: with threads, the
--- formula of a round depends on how the threads ran.
+-- The words satisfy `AskWell`, and ask for rounds in a folder unless round 1 is the last one. The
+-- number of the last round is from 1 to 2 ^ 64 - 2. The streams of round 1 are as required. And
+-- each later round up to the last is provided for, whatever course a run of these words takes: with
+-- threads, the formula of a round depends on how the threads ran.
 pub record AskForValidRounds (Before Last : RoundAsk) (files : FilesView) (words : List Text)
     (last : ℕ) : Type 0 where
   pub asks : AskWell files words

@@ -54,7 +54,7 @@ opened_from store f s (p ∷ ps) each =
           (λ k q at. let next : s + suc k ≡ s + 1 + k = omega arith in subst (λ (n : ℕ). IsOpened store f n q) next (each (suc k) q at)),
     )
 
--- the passes are opened if, at each stream's index, that stream's pass is
+-- `AreOpened` holds if the pass at each stream's index is that stream's, as the store opened it
 are_opened : (store : StoreValue) (f : Cnf) (p : LayoutValue) (ps : List PassValue) → length ps ≡ p.streams
     → ((s : ℕ) (pass : PassValue) → IsStream p s → slice_get ps (s - 1) ≡ Some pass → IsOpened store f s pass) → AreOpened store f 1 ps
 are_opened store f p ps count each = opened_from store f 1 ps (λ k pass at.

@@ -67,7 +67,7 @@ pub fn run<T: Threads + Wait + Sync, R: Source + Send + Drop, G: Gate + Send + D
         (length readers.items) in
         (stream : ℕ) → result ≡ Err (RunFault.Ring stream)
         → StopsAtRing (readers_view R.Source) formula.now run_params readers.items stream }
-    // One legal history has each stream's calls, each once and in order, with their replies.
+    // One legal history contains each stream's calls, each once and in order, with their replies.
     ensures history { IfOk result (λ outcome. let passes = views outcome.passes.items in
         HaveOneHistory formula.now (layout_of options formula.now (length readers.items))
         (seen_by passes) passes) }

@@ -37,7 +37,7 @@ pub record IsOnlyReport (bytes : List ℕ) (report : Report) : Type 0 where
   pub only : (other : Report) → IsReportAlone four two_terms 1 bytes stream_ends.Ended other
       → other ≡ report
 
--- stream 1's report is the only one that it may have if it has these bytes and cites no other
+-- stream 1's report is the only one possible if the stream has these bytes and cites no other
 -- stream's clauses, no read of it failed, and memory didn't run out
 abbrev pub HasOnlyReport : List ℕ → List Report → List Bool → Type 0
 HasOnlyReport bytes reports failed = CiteWithin layout_of_two (one 1) bytes → (report : Report)

@@ -33,7 +33,7 @@ mod rows;
 mod saving;
 mod watching;
 
-/// What tests need of the machine.
+/// What tests need from the machine.
 trait Machine: Threads + Wait + Clock + Abort + AllocGlobal + Sync {}
 
 impl<T: Threads + Wait + Clock + Abort + AllocGlobal + Sync> Machine for T {}

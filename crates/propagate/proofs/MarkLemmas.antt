@@ -116,7 +116,7 @@ cleared-at [] i = refl
 cleared-at (x ∷ marks) zero = refl
 cleared-at (x ∷ marks) (suc i) = cleared-at marks i
 
--- if a mark is set after a mark was cleared, it was set before, too
+-- a mark that is set after some mark has been cleared was set before, too
 pub marked_before : (marks : List Bool) (i k : ℕ) → get_or (set marks i false) k false ≡ true → get_or marks k false ≡ true
 marked_before [] i k h = h
 marked_before (x ∷ marks) zero zero h = absurd (false≢true h)
@@ -135,7 +135,7 @@ cleared-next marks ls k view x lt at e cleared l h =
       | inr same ↦ ap (λ j. get_or (set marks view false) j false) (ap code_of (sym same) ∙ sym e) ∙ cleared-at marks view
     ]
 
--- a clause's literal is still a literal if there are more variables
+-- a literal of a clause is still a literal over more variables
 pub IsLiteral-read : (vars more : ℕ) (d : List ℤ) (l : ℤ) → IsClause vars d → vars ≤ more → Has d l → IsLiteral more l
 IsLiteral-read vars more d l clause le h =
     let is : IsLiteral vars l = All-Has (IsLiteral vars) d l clause.literals h in (is.0, omega (arith, is.1))

@@ -82,7 +82,7 @@ cube_text_cause files vars before path bytes after was cubes.TooLong is = (λ e.
 cube_text_cause files vars before path bytes after was cubes.Range is = (λ e. cc, (bytes, was, is))
 cube_text_cause files vars before path bytes after was cubes.Memory is = inr (inr (was.reader, was.opened))
 
--- Why a later file couldn't be used doesn't depend on the first state of the files.
+-- Why a later file couldn't be used doesn't depend on the initial state of the files.
 module _ (files : FilesView) (first : files.its.State) where
   abbrev later : FilesView
   later = from_first files first

@@ -68,7 +68,7 @@ abbrev pub DiscardsIt : (its : Effects) → its.State → Option its.Output → 
 DiscardsIt its before None after = after ≡ before
 DiscardsIt its before (Some output) after = its.discards before output after
 
--- The program tried to save to the file, and closed it as `ClosesSink` says.
+-- The program tried to save the checkpoint to the file, and closed it as `ClosesSink` says.
 pub record SavesAndCloses (its : Effects)
     (Saves : Result (Option Cnf) SaveFault → its.Output → its.Output → Type 0) (before : its.State)
     (first : its.Output) (unsaved : Option SaveFault) (next : Option Cnf)
@@ -79,7 +79,7 @@ pub record SavesAndCloses (its : Effects)
   pub closed : ClosesSink its result before last unsaved next after
 
 -- What became of the file, if there is one: with the verdict 'unsatisfiable' it was discarded;
--- otherwise the program tried to save to it, and closed it.
+-- otherwise the program tried to save the checkpoint to it, and closed it.
 abbrev pub ClosesCheckpoint : (its : Effects)
     → (Result (Option Cnf) SaveFault → its.Output → its.Output → Type 0) → Verdict → its.State
     → Option its.Output → Option SaveFault → Option Cnf → its.State → Type 0

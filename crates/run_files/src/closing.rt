@@ -83,8 +83,8 @@ impl Closed {
     }
 }
 
-/// Saves the run's clauses to the checkpoint's file, if there is one, and closes it. If the verdict
-/// is 'unsatisfiable', it discards the file without writing to it.
+/// Saves the run's clauses to the checkpoint's file, if there is one, and closes it. After
+/// 'unsatisfiable', discards the file instead, without writing to it.
 pub fn close_checkpoint<F: Machine>(
     alloc: Global,
     files: &mut F,

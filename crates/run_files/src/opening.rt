@@ -144,7 +144,7 @@ fn read_cube_at<T: Threads + Wait + Sync, F: Machine>(
     }
 }
 
-/// Turns a fault of reading the formula's file into the same fault of a cube's file.
+/// Turns a fault in reading the formula's file into the same fault of a cube's file.
 fn of_cube_file(fault: CommandFault) -> CommandFault
     ensures { result ≡ of_cube_file fault }
 {

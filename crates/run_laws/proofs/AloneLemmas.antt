@@ -19,8 +19,8 @@ use Rattle.run_laws.specs.Groups.{one, IsGroup, IsReadingOf}
 use Rattle.run_laws.specs.GroupLaws.{AloneHasOneReport, BeginningsWithin}
 use Rattle.run_laws.proofs.Places.{judged_at}
 
--- a stream with these bytes, and with the end `its` if that is known, is a reading of the whole
--- bytes with this end
+-- the bytes that were read, and the end `its` if that is known, fit a stream that has the whole
+-- bytes and this end
 abbrev pub ReadsTo : Option StreamEnd → List ℕ → List ℕ → StreamEnd → Type 0
 ReadsTo its bytes whole end = MatchOption its ((more : List ℕ) × (whole ≡ bytes ++ more)) (λ e. (whole ≡ bytes) × (e ≡ end))
 

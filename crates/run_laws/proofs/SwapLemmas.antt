@@ -21,8 +21,8 @@ use Rattle.lrup_model.specs.declared.layout.Owner.{Owner}
 use Rattle.lrup_model.specs.declared.layout.Owner.TheVariants as owners
 use Rattle.stream_check.specs.Reducing.{is_vacant}
 
--- the event fits the final state: there, a clause that it found live from another stream isn't
--- retired, and an identity that it retired is
+-- the event fits the final state: an identity that it found live, and that isn't its stream's own,
+-- isn't retired there; an identity that it retired is
 abbrev pub Settles : LayoutValue → State → Event → Type 0
 Settles p final (events.fetch s id events.vacant) = Unit {0}
 Settles p final (events.fetch s id (events.live c)) = (Owns p s id → ⊥) → IsRetired (final id) → ⊥

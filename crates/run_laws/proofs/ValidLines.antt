@@ -110,8 +110,8 @@ formulas_within false false false s is = absurd (let no : owners.Outside ≡ own
 
 -- What lines leave
 
--- how these agree: the database after some lines of stream s, the context of these lines, and the
--- map after all events
+-- these agree: the database after some lines of stream s, the context of these lines, and the map
+-- after all events
 pub record Agrees (f : Cnf) (p : LayoutValue) (s : ℕ) (base : Database) (st : StreamContext) (m : State) : Type 0 where
   pub last : st.last ≡ base.last
   pub free : st.free ≡ base.free

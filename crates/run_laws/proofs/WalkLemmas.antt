@@ -65,7 +65,7 @@ again-tail (events.retire s id r) es again = again
 
 module _ (f : Cnf) (p : LayoutValue) (final m : State) where
   -- if reducing a line keeps its first event, joining this event to an order of the lines without
-  -- it gives an order of all lines
+  -- the event gives an order of all lines
   lines-join : (rest : Lines) (e d : Event) (b : History) (more : List History) (blocks : List Block)
       → rest (stream_of e) ≡ (e ∷ d ∷ b) ∷ more → reduced (e ∷ d ∷ b) ≡ e ∷ reduced (d ∷ b)
       → ((t : ℕ) → blocks_of t blocks ≡ map reduced (with rest (stream_of e) ((d ∷ b) ∷ more) t))

@@ -14,7 +14,7 @@ use Rattle.stream_check.specs.Laws.{cited_by}
 use Rattle.stream_check.specs.Streams.{Stream, InputObservation}
 use Rattle.stream_check.specs.Closed.{IsOfStream}
 
--- By the last state
+-- Judged by the last state
 
 -- if the event found a live identity that isn't the stream's own, the identity isn't retired in
 -- this state
@@ -29,7 +29,7 @@ FoundStays formula layout set history =
     (s : ℕ) → IsStream layout s → IsTrue (set s)
     → AllByRecursion (FindsKept layout (state formula history)) (own history s)
 
--- By events
+-- Judged by the events
 
 -- the event retires the identity
 abbrev pub IsRetireOf : ℕ → Event → Type 0
@@ -56,7 +56,7 @@ MeetsUnretired layout history (events.fetch s id reply) =
     IsFound reply → ¬ Owns layout s id → ¬ HistoryRetires history id
 MeetsUnretired layout history _ = Unit {0}
 
--- By texts
+-- Judged by the texts
 
 -- one of the lines cites the identity
 abbrev pub cites : List StreamLine → ℕ → Bool

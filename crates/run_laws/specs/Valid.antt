@@ -1,8 +1,9 @@
 -- Valid proofs: what has to be in a stream that cites only its own clauses and the formula's. The
 -- lines are replayed over a database of clauses, as LRAT proofs are (Cruz-Filipe et al., CADE
--- 2017), without RAT. This project's own are identities by residue, each above the earlier ones;
--- room; imports; and the rules that no hint comes after the conflict and that only existing clauses
--- are deleted. All of this depends only on the lines: there is no history here, and no checker.
+-- 2017), without RAT. These are this project's own: identities by residue, each above the earlier
+-- ones; room; imports; and the rules that no hint comes after the conflict and that only existing
+-- clauses are deleted. All of this depends only on the lines: there is no history here, and no
+-- checker.
 use Rattle.std.specs.Prelude.{◌≡◌, ◌≤◌, ◌-◌, ◌==◌, ◌&&◌, ◌++◌, ℕ, nat_lt, nat_le, false, IsTrue, List, [], ◌∷◌, length, Option, None, Some, IsSome, if◌then◌else◌, Bool, map}
 use Rattle.std.specs.List.{AllByRecursion, AllZip, Any, flat_map}
 use Rattle.lrup_model.specs.Clause.{Clause}

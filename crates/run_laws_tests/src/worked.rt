@@ -1,4 +1,4 @@
-//! Lines that are valid and lines that aren't, proved from only the definitions.
+//! Lines that are proved valid or invalid from the definitions alone.
 ghost use Rattle.std.specs.Prelude.{◌≡◌, ◌++◌, ℕ, true, List, [], ◌∷◌, pos, negsuc, Some, codes};
 ghost use Rattle.lrup_text.specs.Lines.{Addition, Deletion, Import};
 ghost use Rattle.stream_check.specs.Excuses.{CutOff, OutOfMemory, ReadFailed, IsExcusedAt};

@@ -9,8 +9,8 @@ use Rattle.run_outcome.specs.declared.outcome.Verdict.{Verdict}
 use Rattle.run_outcome.specs.declared.outcome.Verdict.TheVariants.{Unsatisfiable, UnsatisfiableUnder, Unknown}
 use Rattle.stream_check.specs.Streams.{RunParamsValue}
 
--- how often an identity of another stream is fetched again while it is vacant; and for each stream,
--- its number of identities and its room in literals
+-- how many times an identity of another stream is fetched again while it is vacant; and for each
+-- stream, its number of identities and its room in literals
 pub record OptionsValue : Type 0 where
   pub tries : ℕ
   pub lines : ℕ

@@ -9,8 +9,8 @@ use lrup_model::{Formula, Layout, LayoutFault};
 use std::marker::Model;
 use stream_check::Checker;
 
-/// The options of a run: how often a vacant identity of another stream is fetched again, and how
-/// much each stream may publish.
+/// The options of a run: how many times a vacant identity of another stream is fetched again, and
+/// how much each stream may publish.
 #[derive(Clone, Copy, Debug, PartialEq, Eq)]
 pub struct Options {
     tries: u64,
@@ -50,7 +50,7 @@ impl Options {
         Some(Options { tries, lines, room })
     }
 
-    /// How often a vacant identity of another stream is fetched again: at most 1,000,000.
+    /// How many times a vacant identity of another stream is fetched again: at most 1,000,000.
     pub fn tries(&self) -> u64
         ensures tries { result ≡ self.now.tries }
         ensures limit { self.now.tries ≤ max_tries }

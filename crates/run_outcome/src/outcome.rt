@@ -46,7 +46,7 @@ pub enum RunFault {
     #[error("out of memory")]
     Memory,
     /// A thread of the stream with this number (from 1) couldn't be started. In the code, no stream
-    /// is read in this case: the threads that have started end without a read, as a test of one
+    /// is read in this case: the threads started so far leave without a read, as a test of one
     /// stream's two threads shows.
     #[error("worker {0} not started")]
     Spawn(u64),

@@ -62,7 +62,7 @@ impl Clauses {
     }
 }
 
-/// Wants the clauses that some stream hasn't dropped, or all clauses if there are no streams.
+/// Selects the clauses that some stream hasn't dropped, or all clauses if there are no streams.
 #[derive(Drop)]
 struct NotAllDropped<'a> {
     dropped: &'a [DroppedIds],

@@ -55,7 +55,7 @@ asks_at ownerships.Own c h es r inside fetches = once c.stream h es r fetches
 asks_at ownerships.Foreign c h es r inside fetches = fetches
 asks_at ownerships.Outside c h es r inside fetches = absurd (inside refl)
 
--- this owner of an identity, as stream s sees it
+-- what an identity with this owner is to stream s
 abbrev pub ownership_for : ℕ → Owner → Ownership
 ownership_for s o =
     elim o [

@@ -21,8 +21,8 @@ use Rattle.stream_check.specs.Laws.{EarlyEvents, VacantTriesAgain, cited_by, Fet
 
 -- What holds for the events of a line, from the last one on
 
--- P holds for the empty list, for a single publish, for a single retire whose reply is NotLive, and
--- for another retire or the events of a hint in front of events for which P holds
+-- P holds for the empty list, a single publish, and a single retire whose reply is NotLive; and if
+-- it holds for some events, it also holds with a retire or the events of a hint in front of them
 pub record Holds (c : StreamParams) (IsHint : ℕ → Type 0) (P : History → Type 0) : Type 0 where
   pub none : P []
   pub published : (id : ℕ) (d : Clause) (r : Published) → P (events.publish c.stream id d r ∷ [])

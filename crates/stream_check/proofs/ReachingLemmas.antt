@@ -31,7 +31,7 @@ use Rattle.stream_check.specs.Laws.{DecidedBeforeFailure}
 use Rattle.stream_check.specs.lemmas.ContextLemmas.{context_of-snoc, counts_of, tally_is, tally_says, counts_of-snoc, same_context}
 use Rattle.stream_check.specs.lemmas.StoppingLemmas.{drops_none}
 
--- if one more line is good with its block, all lines are
+-- if the lines are good, and one more is good with its block, all of them are good
 good_snoc : (c : StreamParams) (before lines : List StreamLine) (blocks : List History) (line : StreamLine) (block : History)
     → AreGood c before lines blocks → JudgesLine c (context_of c (before ++ lines)) line block Good
     → AreGood c before (lines ++ line ∷ []) (blocks ++ block ∷ [])
@@ -336,7 +336,7 @@ pub decided_before_failure : DecidedBeforeFailure
 decided_before_failure c bytes more end blocks report untold j = before_end c bytes more stream_ends.Failed end blocks report j
     (λ says. absurd (untold (capped (length j.lines + 1), ap (λ (r : Report). r.ending) says)))
 
--- no other end gives the ending of a failed read
+-- the report of a stream that ended isn't the report of a failed read
 says_failed : (c : StreamParams) (lines others : List StreamLine) (rest left : List ℕ) (report : Report)
     → report ≡ report_of c lines 0 (ending_at stream_ends.Ended rest (capped (length lines + 1)))
     → report ≡ report_of c others 0 (ending_at stream_ends.Failed left (capped (length others + 1))) → ⊥

@@ -63,7 +63,7 @@ ending_at stream_ends.Ended [] number = endings.Ended
 ending_at stream_ends.Ended (byte ∷ bytes) number = endings.Bad number (faults.Text texts.Truncated)
 ending_at stream_ends.Failed rest number = endings.ReadFailed number
 
--- After the good lines one of four things ends the stream. If the report has a line number, it is
+-- After the good lines, one of four things ends the stream. If the report has a line number, it is
 -- the number of the next line. If the rest begins with a deletion, good or bad, memory may run out
 -- in that deletion.
 pub data EndsAfter (params : StreamParams) (lines : List StreamLine) (rest : List ℕ)

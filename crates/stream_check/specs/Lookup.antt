@@ -1,5 +1,5 @@
--- How the identity in a hint or an import is looked up, and how often it is fetched (this project's
--- own).
+-- How the identity in a hint or an import is looked up, and how many times it is fetched (this
+-- project's own).
 use Rattle.std.specs.Prelude.{◌≡◌, ◌⊎◌, ◌≤◌, ◌++◌, ℕ, Bool, true, false, List, [], ◌∷◌, replicate, Result, Ok, Err}
 use Rattle.lrup_model.specs.Clause.{Clause}
 use Rattle.lrup_model.specs.Event.{History, Reply, vacant, live, retired, fetch}

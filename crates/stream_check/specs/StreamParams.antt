@@ -7,8 +7,8 @@ use Rattle.lrup_model.specs.declared.layout.Owner.TheVariants as owners
 use Rattle.stream_check.specs.declared.params.Ownership.{Ownership}
 use Rattle.stream_check.specs.declared.params.Ownership.TheVariants as ownerships
 
--- the layout, the cube of assumed literals, the stream's number (from 1), and how often an identity
--- of another stream is fetched again while it is vacant
+-- the layout, the cube of assumed literals, the stream's number (from 1), and how many times an
+-- identity of another stream is fetched again while it is vacant
 pub record StreamParams : Type 0 where
   pub layout : LayoutValue
   pub cube : CubeValue

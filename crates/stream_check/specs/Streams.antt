@@ -55,8 +55,8 @@ pub record MatchesInput (observation : InputObservation) (stream : Stream) : Typ
       (λ end. EndsSo end observation.left observation.has_failed)
   pub needed : IsSome stream.end → stream.unneeded ≡ []
 
--- The stream is judged by these blocks of events. A stream whose `end` is `None` is judged so,
--- whichever way it ends.
+-- The stream is judged by these blocks of events. A stream whose `end` is `None` is judged in this
+-- way however it ends.
 abbrev pub JudgesStream : StreamParams → Stream → List History → Report → Type 0
 JudgesStream params stream blocks report =
     (end : StreamEnd) → IfSome stream.end (λ known. known ≡ end)
@@ -85,8 +85,8 @@ IsBlockWithin layout set block =
     IsStream layout block.stream × IsTrue (set block.stream)
     × AllByRecursion (λ event. stream_of event ≡ block.stream) block.events
 
--- The parameters with which all streams of a run are checked: the layout, the cube, and how often
--- an identity of another stream is fetched again.
+-- The parameters with which all streams of a run are checked: the layout, the cube, and how many
+-- times an identity of another stream is fetched again.
 pub record RunParamsValue : Type 0 where
   pub layout : LayoutValue
   pub cube : CubeValue

@@ -13,8 +13,8 @@ pub data LineVerdict : Type 0 where
 abbrev pub Fails : ℕ → Fault → History → LineVerdict → Type 0
 Fails deleted fault history verdict = (history ≡ []) × (verdict ≡ Bad deleted fault)
 
--- The first condition that a line violates gives the fault. Either that is this condition, and
--- there are no further events; or this condition holds, and the later ones decide.
+-- The first condition that a line violates gives the fault. Either this condition is violated, and
+-- there are no further events; or it holds, and the later conditions decide.
 abbrev pub Violates : Type 0 → Fault → History → Fault → Type 0 → Type 0
 Violates Holds its history fault Next =
     ((¬ Holds) × (history ≡ []) × (fault ≡ its)) ⊎ (Holds × Next)

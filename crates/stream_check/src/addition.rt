@@ -47,7 +47,7 @@ impl LineScratch {
     }
 
     /// Runs those tests of an addition that fetch no clause, in the order of their faults. If the
-    /// addition passes all, `marks` has its clause.
+    /// addition passes them all, `marks` has its clause.
     fn admit<M: ClauseMap>(
         &mut self,
         state: &StreamState,
@@ -115,8 +115,8 @@ impl LineScratch {
                 gate.after_publish(map.stream(), id);
                 Ok(())
             }
-            // This can't happen: `admit` found that the identity is the stream's own and above all
-            // that the stream has published, and no other stream publishes under it.
+            // This can't happen: `admit` found that the identity is the stream's own and exceeds
+            // all that the stream has published, and no other stream publishes under it.
             Published::Taken => unreachable!(),
         }
     }

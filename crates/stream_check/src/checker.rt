@@ -51,7 +51,7 @@ impl Model for Checker {
 }
 
 impl Checker {
-    /// The largest number of tries: how often a vacant hint may be fetched again.
+    /// The largest number of tries, i.e. of repeated fetches of a vacant hint.
     pub const MAX_TRIES: u64 = 1_000_000;
 
     /// Makes a checker for the stream with the number `stream` (from 1), before its first byte. A

@@ -13,7 +13,7 @@ use std::fmt;
 pub enum Fault {
     /// The text isn't a line.
     Text(LineFault),
-    /// The identity of an addition isn't the stream's own, or isn't above all that the stream
+    /// The identity of an addition isn't the stream's own, or doesn't exceed all that the stream
     /// published; or the number in an import is the stream's own identity, or not an identity.
     Identity,
     /// A literal's variable isn't one of the formula's.

@@ -1,5 +1,5 @@
 //! Laws of judging. Each function does nothing: its contract is the law, which holds for every
-//! stream, layout and history. If a body calls one, the proof of that body uses the law.
+//! stream, layout and history. If it calls another function, its proof uses that function's law.
 ghost use Rattle.stream_check.specs.Laws.{FreshLeft, GoodLineTaken, EndJudged, FinishedStays, DecidedBeforeFailure, DroppedOnce, ReadyNew, ReadyBeside, OneReport, RepliesDecide, BlocksGoAlike, LegalNeverFork, AloneDecides, GoodFollows, EarlyEvents, VacantTriesAgain, ReducedStream, CitedFetched, WithinReported, EmptyCubeReported, CountsWithin};
 
 use lrup_text::laws::{

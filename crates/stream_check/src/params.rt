@@ -9,8 +9,8 @@ use lrup_model::{Cube, Id, Layout, Lit, Owner};
 use std::marker::Model;
 
 /// The parameters by which a stream's lines are checked: the layout, the cube of assumed literals,
-/// the stream's number (from 1), and how often a hint of another stream is fetched again while it
-/// is vacant.
+/// the stream's number (from 1), and how many times a hint of another stream is fetched again while
+/// it is vacant.
 #[derive(Drop)]
 pub struct StreamParams {
     layout: Layout,
@@ -90,8 +90,8 @@ impl StreamParams {
         self.cube.refutes(clause)
     }
 
-    /// How often a vacant hint is fetched again: a hint of another stream up to `tries` times, and
-    /// any other hint never, since only the stream itself publishes its own identities, and the
+    /// How many times a vacant hint is fetched again: a hint of another stream up to `tries` times,
+    /// and any other hint never, since only the stream itself publishes its own identities, and the
     /// formula's are live.
     #[cold]
     pub fn tries_for(&self, hint: Id) -> u64

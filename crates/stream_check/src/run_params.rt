@@ -5,8 +5,8 @@ ghost use Rattle.stream_check.specs.StreamParams.{max_tries};
 use lrup_model::{Cube, Layout};
 use std::marker::Model;
 
-/// The parameters by which all streams of a run are checked: the layout, the cube, and how often a
-/// hint of another stream is fetched again while it is vacant.
+/// The parameters by which all streams of a run are checked: the layout, the cube, and how many
+/// times a hint of another stream is fetched again while it is vacant.
 #[derive(Drop)]
 pub struct RunParams<'a> {
     layout: &'a Layout,
@@ -53,8 +53,8 @@ impl<'a> RunParams<'a> {
         self.cube
     }
 
-    /// How often a hint of another stream is fetched again while it is vacant: at most 1,000,000
-    /// times.
+    /// How many times a hint of another stream is fetched again while it is vacant: at most
+    /// 1,000,000.
     pub fn tries(&self) -> u64
         ensures tries { result ≡ self.now.tries }
         ensures limit { result ≤ max_tries }

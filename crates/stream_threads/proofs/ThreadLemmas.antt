@@ -79,7 +79,7 @@ none_found view [] room found none is =
     (record { found = []; finish = tt; reports = refl; readers = refl; passes = refl; dropped = refl })
 none_found view (j ∷ jobs) room found none is = cc
 
--- the element after a prefix is at the index that is the prefix's length
+-- the element after a prefix has the prefix's length as its index
 following : {A : Type 0} (before after : List A) (x : A) → slice_get (before ++ x ∷ after) (length before) ≡ Some x
 following [] after x = refl
 following (b ∷ before) after x = following before after x

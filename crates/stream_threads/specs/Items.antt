@@ -24,8 +24,8 @@ pub record IsSentOf (bytes : List ℕ) (end : StreamEnd) (items : List ℕ) : Ty
   pub items_are : items ≡ bytes ++ mark_of end ∷ []
 
 -- What a reading thread sent: the bytes that its reader's reads gave, up to the last read, and then
--- the mark of the end at that read. If the bytes that the reader delivered are known, they are
--- these bytes.
+-- the mark that says how the stream ended. If the bytes that the reader delivered are known, they
+-- are these bytes.
 pub record SendsAll (S : Type 0) (view : SourceView S) (first last : S)
     (items : List ℕ) : Type 0 where
   pub bytes : List ℕ

@@ -191,7 +191,7 @@ fn start_and_join<
     }
     // An `Err` means that the signal has already been set to leave. The signal is the run's own, so
     // this can't happen, but no contract of `OnceLock` says so. `Spawn` has to name an existing
-    // stream, so without streams the result is the empty lists; a run always has streams, by its
+    // stream, so without streams the empty lists are returned; a run always has streams, by its
     // layout.
     let Ok(signalled) = signal_start(threads, signal) else {
         if started.is_empty() {
@@ -227,8 +227,8 @@ fn signal_start<'a, W: Wait>(
 /// Reads and checks all streams, each in two threads of its own, and returns their results, in
 /// order, once all threads have ended. The code reads nothing before all threads have started, and
 /// if a thread can't be started, those that have started leave at once. The call blocks while a
-/// reader does. If a checking thread received no mark, a ring has failed: the fault has the results
-/// of the streams before the first one without a mark.
+/// reader does. If a checking thread received no mark, a ring has failed: the fault contains the
+/// results of the streams before the first one without a mark.
 pub fn check_all<T: Threads + Wait + Sync, R: Source + Send + Drop, G: Gate + Send + Drop>(
     threads: &T,
     store: &Store,

@@ -13,7 +13,7 @@ fn same<T: PartialEq + fmt::Debug + Drop>(rt: &impl Abort, value: T, wanted: T) 
     assert_eq!(rt; value, wanted);
 }
 
-/// How often a thread polls for another one before it gives up.
+/// How many times a thread polls for another one before it gives up.
 const TURNS: u64 = 10_000_000;
 
 /// Waits until the counter has this value; returns whether it got there in time.

@@ -135,7 +135,7 @@ module _ {S : Type 0} (view : SourceView S) where
     ready = ready;
   }
 
-  -- the other workers are still in their states
+  -- `IsWorking` still holds for the other workers
   module _ (law : ReadyBeside) (run_params : RunParamsValue) (blocks : List Block) (m n : Plain) (s : ℕ) (bs : List History)
       (moves : PlainMoves m n s (joined bs)) where
     working_beside : (t : ℕ) (first : S) (w : WorkerValue S) → 0 < t → s ≢ t → IsWorking view run_params blocks m t first w

@@ -13,8 +13,8 @@ use Rattle.stream_check.specs.Readings.{AreRead}
 use Rattle.stream_check.specs.Streams.{Stream, MatchesInput, RunParamsValue, blocks_of, events_in, observations}
 use Rattle.stream_check.specs.Turns.{IsOrderedRoundRobin}
 
--- The map has this layout. It is as it was opened: it has only its formula's clauses, and each
--- stream has its whole room.
+-- The map has this layout. It is as it was at its opening: it has only its formula's clauses, and
+-- each stream has all its room left.
 pub record IsJustOpened (its_layout : LayoutValue) (map : Plain) : Type 0 where
   pub layout : map.layout ≡ its_layout
   pub fits : Fits its_layout (formula_of map)

@@ -6,7 +6,7 @@ ghost use Rattle.test_support.specs.Worked.{four};
 use lrup_model::{Formula, Lit};
 use std::alloc::{AllocError, Global};
 
-/// The literal of this number.
+/// The literal with this number.
 pub fn lit(value: i64) -> Lit
     requires { IsLiteral max_variable value }
     ensures { result ≡ value }

@@ -61,7 +61,7 @@ static struct {         // what was given: "" for an option without a value, NUL
 static struct child {
     const char *name;
     int handle;         // -1: it isn't running
-    int output;         // in memory, so that a full disk doesn't cost an answer
+    int output;         // in memory, so that a full disk can't prevent an answer
     off_t begins;       // in `output`, after the lines of an lrupd that a signal has ended
     pid_t pid;          // 0: it hasn't been started, or not since a signal ended it
     siginfo_t end;

@@ -33,7 +33,7 @@ impl Counters {
     }
 }
 
-/// How often a thread polls for another thread before it gives up.
+/// How many times a thread polls for another thread before it gives up.
 const TURNS: u32 = 10_000_000;
 
 /// Waits until the counter has at least this value; returns whether that happened in time.

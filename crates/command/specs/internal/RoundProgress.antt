@@ -98,7 +98,8 @@ pub record EndsAt (its : Effects) (given : CommandLine) (cube : CubeValue) (form
   pub is : IsOfRound last round
   pub finished : RoundsEnd round after
 
--- The round after these has no report, because of this fault, and leaves these files.
+-- Some rounds were checked, but the next one has no report because of this fault, and leaves these
+-- files.
 pub record FailsAfter (its : Effects) (given : CommandLine) (cube : CubeValue) (formula : Cnf)
     (first : its.State) (failed : RoundFault) (after : its.State) : Type 0 where
   pub last : Round its given cube

@@ -103,8 +103,8 @@ static USAGE: [(&[&str], &str); 5] = [
     (&["--help"], "Usage: lrupd [OPTIONS] <FORMULA> <STREAM>..."),
 ];
 
-/// Whether the text contains this part and isn't a message of the program itself; and how often its
-/// first line occurs.
+/// Whether the text contains this part and isn't a message of the program itself; and how many
+/// times the text's first line occurs.
 fn usage_of(text: &str, part: &str) -> (bool, usize) {
     let (first, _) = text.split_once('\n').unwrap_or(("", ""));
     let is_usage = text.contains(part) && !text.starts_with("lrupd: ");

@@ -116,8 +116,8 @@ static ROWS: [Row; 6] = [
         done: &["f a 1 +d/round-2.cnf =d/round-2.cnf ", OPENED, KEPT],
         kept: &[FOUR, ALL],
     },
-    // The two streams of `MANY` and `LONG`, limited by the words, or by the sizes of the previous
-    // round, which it read from a file.
+    // The two streams of `MANY` and `LONG`, limited by the words, or by the sizes that the previous
+    // round read from a file.
     Row {
         words: "--lines=2 --room=3 f 1 2",
         streams: &[ADDS, ""],

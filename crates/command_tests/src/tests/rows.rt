@@ -156,7 +156,7 @@ fn each_word_opens_its_file(rt: HostRuntime) -> Result<(), Fail> {
 
 static SLEEPS: [(&str, u64); 3] = [("--tries=0", 0), ("--tries=3", 3), ("--tries=17", 17)];
 
-/// A hint whose clause never comes is looked up again as often as `--tries` says, each time a
+/// A hint whose clause never comes is looked up again as many times as `--tries` says, each time a
 /// microsecond later.
 #[test]
 fn tries_are_those_of_the_words(rt: HostRuntime) {

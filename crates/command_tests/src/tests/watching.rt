@@ -9,7 +9,7 @@ use std::io;
 use std::sync::atomic::{AtomicU64, AtomicUsize, Ordering};
 use std::time::Duration;
 
-/// Counts of what watchers take, and a clock that moves only when a file is looked for.
+/// Counts of watchers and their writes, and a clock that moves only when a file is looked for.
 #[derive(Drop)]
 pub(super) struct WatchLog {
     watchers: AtomicU64,

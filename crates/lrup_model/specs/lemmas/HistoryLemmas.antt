@@ -149,7 +149,7 @@ formula_stays f p h id fits legal positive within =
 pub own-mine : (e : Event) (h : History) (s : ℕ) → stream_of e ≡ s → own (e ∷ h) s ≡ e ∷ own h s
 own-mine e h s mine = cond-true (eqb (stream_of e) s) (e ∷ own h s) (own h s) (eq-eqb (stream_of e) s mine)
 
--- if all events of a history are of one stream, the stream's part is the whole history
+-- if all events of a history are one stream's, the stream's part is the whole history
 pub own-all : (s : ℕ) (es : History) → AllByRecursion (λ e. stream_of e ≡ s) es → own es s ≡ es
 own-all s [] all = refl
 own-all s (e ∷ es) all = own-mine e es s all.0 ∙ ap (λ (g : History). e ∷ g) (own-all s es all.1)

@@ -28,7 +28,7 @@ All-map P Q gives (x ∷ xs) all = (gives x all.0, All-map P Q gives xs all.1)
 
 -- Loops over a list, element by element
 
--- after one more element is taken, the taken and the remaining ones are still the whole list
+-- after one more element is taken, the taken and the remaining elements are still the whole list
 pub taken_next : {X C : Type 0} (f : X → C) (xs : List X) (x : X) (ys zs : List C) (y : C)
     (all : List C) → ys ≡ y ∷ zs → f x ≡ y
     → map f xs ++ ys ≡ all → map f (xs ++ x ∷ []) ++ zs ≡ all

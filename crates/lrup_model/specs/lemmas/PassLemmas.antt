@@ -33,7 +33,7 @@ moves_none v = record {
   follow = λ all. all;
 }
 
--- a pass is fair after two moves if at least one of them has a call
+-- a pass is fair after two moves if it makes a call in at least one of them
 fair_append : (a b c : View) (es fs : History) → PassMoves a b es → PassMoves b c fs → es ++ fs ≢ []
     → IsFair c
 fair_append a b c es [] ab bc some = bc.fair (ab.fair_after (λ none. some (append-nil es ∙ none)))

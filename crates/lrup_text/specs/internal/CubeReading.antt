@@ -36,10 +36,11 @@ pub record ReadsLiteral (text : List ℕ) (literal : ℤ) (rest : List ℕ) : Ty
   pub fits : IsStreamLiteral literal
   pub is : text ≡ signed_decimal literal ++ space ∷ rest
 
--- the literals are kept; and, below, why they aren't: one is out of range, or memory ran out
+-- the literals are kept
 abbrev pub AreKept : ℕ → List ℤ → List ℤ → Type 0
 AreKept vars literals kept = (kept ≡ literals) × IsCubeOver vars literals
 
+-- why the literals aren't kept: one is out of range, or memory ran out
 abbrev pub AreNotKept : ℕ → List ℤ → CubeFault → Type 0
 AreNotKept vars literals Spelling = ⊥
 AreNotKept vars literals TooLong = ⊥

@@ -107,7 +107,8 @@ pub breaks_first : {a b : Option (List ℕ)} {h x z : List ℕ} → Breaks a b h
     → z ≡ x ++ rest → Breaks a b h z
 breaks_first {a} {b} {h} broken rest is = subst (λ t. Breaks a b h t) (sym is) (breaks_more broken rest)
 
--- if the first of two calls put its bytes, the second call's result says what became of both texts
+-- if the first of two calls wrote or held all its bytes, the second call's result says what became
+-- of both texts
 pub puts_all_next : {E : Type 0} (r : Result (Unit {0}) E) {a b : Option (List ℕ)}
     (c : Option (List ℕ)) {h i : List ℕ} (j : List ℕ) {x : List ℕ} (y : List ℕ) {z : List ℕ}
     → Puts a b h i x → PutsAll r b c i j y → z ≡ x ++ y → PutsAll r a c h j z

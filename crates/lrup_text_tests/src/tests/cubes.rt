@@ -102,7 +102,7 @@ fn misspelled_cubes(rt: HostRuntime) -> Result<(), Fail> {
     Ok(())
 }
 
-/// A literal, how often it is repeated, the text's end, and the result.
+/// A literal, how many times it occurs, the text's end, and the result.
 static LONG: [(&str, usize, &str, &str); 10] = [
     ("1 ", 65_535, "0\n", "cube 1"),
     ("-1 ", 65_535, "0\n", "cube -1"),

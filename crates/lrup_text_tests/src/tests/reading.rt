@@ -188,7 +188,7 @@ fn unfinished_lines_need_more(rt: HostRuntime) -> Result<(), Fail> {
     Ok(())
 }
 
-/// A beginning, a part and an end, how often the part is repeated, how many bytes are used, and the
+/// A beginning, a part and an end, how many times the part occurs, how many bytes are used, and the
 /// result.
 type LongRow = (
     (&'static str, &'static str, &'static str),

@@ -178,7 +178,7 @@ fn written_after(rt: &impl Abort, alloc: Global, front: &[u8]) -> Result<Vec<u8>
     Ok(sink.into_inner())
 }
 
-/// Bytes to fill the front of a buffer with.
+/// Bytes that fill the beginning of a buffer.
 static FRONT: [u8; 4_097] = [b'x'; 4_097];
 
 /// Writes numbers and literals at each index near the end of a buffer of 4,096 bytes.

@@ -135,7 +135,7 @@ fn pauses_in_vain<T: Machine, G: Gate + Send + Drop>(
     says(rt, mode, &found, &SAID_OF_MISSING)
 }
 
-/// The gates sleep on a clock that counts the sleeps, and on the system's.
+/// The gates sleep first on a clock that counts the sleeps, and then on the system's.
 #[test]
 fn a_pause_sleeps_before_later_attempts(rt: HostRuntime) -> Result<(), Fail> {
     for mode in BOTH {

@@ -20,7 +20,7 @@ type Call = [u64; 3];
 /// A thread waits at the first call until the second has been made this many times.
 pub(super) type Hold = (Call, Call, u64);
 
-/// How often a thread polls before it gives up.
+/// How many times a thread polls before it gives up.
 const TURNS: u64 = 10_000_000;
 
 /// Holds threads at calls, and counts the calls that are waited for and the waits that timed out.
@@ -45,7 +45,7 @@ impl<'a> Holds<'a> {
         self.late.load(Ordering::SeqCst)
     }
 
-    /// How often the call that the first hold waits for was made.
+    /// How many times the call that the first hold waits for was made.
     pub(super) fn made(&self) -> u64 {
         let first = self.made.first();
         first.map_or(0, |count| count.load(Ordering::SeqCst))

@@ -67,7 +67,7 @@ fn held_says<T: Machine>(
     Ok(())
 }
 
-/// The second line of stream 1 comes only after the last lines of streams 2 and 3 were checked.
+/// The second line of stream 1 comes only once the last lines of streams 2 and 3 have been checked.
 #[test]
 fn a_blocked_reader_holds_up_no_other(rt: HostRuntime) -> Result<(), Fail> {
     let streams: [&'static [&'static str]; 3] = [

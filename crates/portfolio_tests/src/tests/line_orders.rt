@@ -1,4 +1,4 @@
-//! Runs with threads have the reports of some order of the lines, checked on one thread. This
+//! Runs with threads have the same reports as some order of the lines, checked on one thread. This
 //! needn't hold if a clause that another stream has cited is deleted.
 ghost use Rattle.std.specs.Prelude.{◌≡◌, ◌≤◌, length};
 ghost use Rattle.lrup_model.specs.Event.{History};

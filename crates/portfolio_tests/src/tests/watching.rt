@@ -221,7 +221,7 @@ static ROWS: [(&[Step], &str); 14] = [
         ],
         "",
     ),
-    // The time counts from the second attempt on.
+    // The time is measured from the second attempt on.
     (&[Asks(1, 1), Later(1_000), Asks(2, 1_023)], ""),
     // A wait is reported once for each hint.
     (&[Asks(1, 2), Later(1_000), Asks(3, 9_000)], WAITS),

@@ -117,8 +117,8 @@ pub record IsSound (params : StreamParams) (dropped : DroppedIdsValue) (vars : �
   pub tries : params.tries < 2 ^ 63
   pub full : IfSome ending (λ stopped. IsFullAtMemory stopped dropped)
 
--- how often a hint with this ownership may be fetched again: `tries` times if it is another
--- stream's, and never otherwise
+-- how many times a hint with this ownership may be fetched again: `tries` if it is another
+-- stream's, and 0 otherwise
 abbrev pub tries_on : Ownership → ℕ → ℕ
 tries_on ownerships.Formula tries = 0
 tries_on ownerships.Own tries = 0

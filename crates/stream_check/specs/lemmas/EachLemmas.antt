@@ -85,8 +85,8 @@ each_more s (x ∷ xs) [] each follows = absurd each
 each_more s (x ∷ xs) (y ∷ ys) each follows =
     (follows s x y each.0, each_more (s + 1) xs ys each.1 follows)
 
--- if `Holds` implies `Also` for `f` of the second element, `Also` is true for each stream and `map
--- f ys`
+-- if `Holds` implies `Also` for `f` of the second element, `Also` is true for each stream, with
+-- `map f ys` as the second list
 pub each_map : {X Y Z : Type 0} {Holds : ℕ → X → Y → Type 0} (Also : ℕ → X → Z → Type 0)
     (f : Y → Z) (s : ℕ) (xs : List X) (ys : List Y) → Each Holds s xs ys
     → ((t : ℕ) (x : X) (y : Y) → Holds t x y → Also t x (f y)) → Each Also s xs (map f ys)
@@ -110,8 +110,8 @@ each_within last s (x ∷ xs) (y ∷ ys) within each follows = (
       (λ t a b after. follows t a b (omega (arith, after))),
 )
 
--- with another element at index i of the second list, `Also` is true for each stream, if it follows
--- from `Holds` for each other stream, and for the stream at i from `Holds` of the old element
+-- `Also` is true for each stream after v replaces the second list's element at index i, if `Holds`
+-- implies `Also` for the other streams, and `Holds` of the old element implies `Also` of v
 pub each_set : {X Y : Type 0} {Holds Also : ℕ → X → Y → Type 0} (s i : ℕ) (xs : List X)
     (ys : List Y) (v : Y) → Each Holds s xs ys
     → ((t : ℕ) (x : X) (y : Y) → s ≤ t → t ≢ s + i → Holds t x y → Also t x y)

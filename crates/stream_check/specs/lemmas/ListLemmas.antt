@@ -1,4 +1,4 @@
--- Lists that were written back.
+-- A lemma about the first elements of a list.
 use Rattle.std.proofs.Common.{◌≡◌, ◌++◌, ℕ, List, length, take, ◌∙◌, arith}
 use Rattle.std.proofs.lemmas.List.{take-append-le, take_all}
 

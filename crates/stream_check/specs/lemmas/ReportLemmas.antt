@@ -24,7 +24,7 @@ pub split_first : (line : StreamLine) (lines : List StreamLine) (rest : List ℕ
     ++ (flat_map line_text lines ++ rest)
 split_first line lines rest = append_assoc (line_text line) (flat_map line_text lines) rest
 
--- the additions of some lines followed by others
+-- the additions of two appended lists are those of the first list, then those of the second
 pub additions-append : (a b : List StreamLine)
     → additions_of (a ++ b) ≡ additions_of a ++ additions_of b
 additions-append [] b = refl

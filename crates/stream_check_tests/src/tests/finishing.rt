@@ -7,7 +7,7 @@ use std::process::Abort;
 use std::test::Fail;
 use stream_check::{Checker, Ending, Gate, Report};
 
-/// How often a gate got a report, and the stream and ending of the last report.
+/// How many times a gate got a report, and the stream and ending of the last report.
 #[derive(Clone, Copy, Debug, PartialEq, Eq)]
 struct LastReport {
     calls: u64,

@@ -153,14 +153,14 @@ fn tautologies_and_empty_clauses_are_imported(rt: HostRuntime) -> Result<(), Fai
     Ok(())
 }
 
-/// How often an import of clause 1 repeats `1`, what comes last, and the report's ending.
+/// How many times an import of clause 1 repeats `1`, what comes last, and the report's ending.
 static LONG_IMPORTS: &[(usize, &str, &str)] = &[
     (65_534, " -1 0\n", "ended; fetches 1"),
     (65_534, " 1 0\n", "bad line 1 (differs 1); fetches 1"),
     (65_535, " -1 0\n", "bad line 1 (too long); fetches 0"),
 ];
 
-/// Imports with the largest number of literals of a line, and with one more.
+/// Imports with the largest number of literals that a line may have, and with one more.
 #[test]
 fn long_imports_are_compared(rt: HostRuntime) -> Result<(), Fail> {
     for &(count, last, said) in LONG_IMPORTS {

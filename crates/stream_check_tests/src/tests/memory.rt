@@ -1,5 +1,5 @@
-//! Streams that run out of memory. Normally they don't: `rt try --test --fail-alloc N` runs these
-//! tests with one allocation refused.
+//! Streams that run out of memory. Normally they don't, but `rt try --test --fail-alloc N` runs
+//! these tests with one allocation refused.
 ghost use Rattle.std.specs.Prelude.{IsSome, IsTrue};
 ghost use Rattle.lrup_model.specs.Layout.{IsStream};
 ghost use Rattle.lrup_model.specs.Plain.{plain_caller_view};
@@ -15,7 +15,7 @@ use stream_check::{CheckStatus, Checker, Ending, Report};
 
 /// The first line, an addition of three literals, needs no memory. Each later line drops one more
 /// identity, and the second line first retires one of the stream's own. So if line `L` is refused
-/// memory, `L - 1` identities were deleted before.
+/// memory, `L - 1` identities have already been deleted.
 const LINES: &str = "5 1 2 1 0 1 0\n5 d 5 1 0\n\
     5 d 2 0\n5 d 3 0\n5 d 4 0\n5 d 6 0\n5 d 8 0\n5 d 10 0\n5 d 12 0\n5 d 14 0\n5 d 16 0\n\
     5 d 18 0\n5 d 20 0\n5 d 22 0\n5 d 24 0\n5 d 26 0\n5 d 28 0\n5 d 30 0\n5 d 32 0\n5 d 34 0\n";

@@ -252,7 +252,7 @@ fn comes_through<T: Threads + Wait + Clock + Sync + Abort>(
     Ok(())
 }
 
-/// The sizes that the program has.
+/// The sizes that the program uses.
 const STANDARD: Sizes = Sizes {
     ring: 65_536,
     pushed: 4_096,

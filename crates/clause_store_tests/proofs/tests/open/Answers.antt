@@ -6,7 +6,7 @@ use Rattle.clause_store.specs.Passes.{StoreValue, PassValue}
 use Rattle.clause_store_tests.specs.Worked.{IsPassAt, ArePassesAt}
 use Rattle.clause_store_tests.proofs.tests.open.Goals as goal
 
--- if the pass at each index is of this store and formula, all passes are
+-- if the pass at each index belongs to this store and formula, all passes do
 are_at : (f : Cnf) (store : StoreValue) (ps : List PassValue) → ((k : ℕ) (p : PassValue) → slice_get ps k ≡ Some p → IsPassAt f store p)
     → ArePassesAt f store ps
 are_at f store [] each = tt

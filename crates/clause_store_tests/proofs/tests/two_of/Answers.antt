@@ -5,7 +5,7 @@ use Rattle.clause_store.specs.Passes.{StoreValue, PassValue}
 use Rattle.clause_store_tests.specs.Worked.{IsPassAt, ArePassesAt}
 use Rattle.clause_store_tests.proofs.tests.two_of.Goals as goal
 
--- if all passes are of this store and formula, so are the last one and those before it
+-- if all passes belong to this store and formula, so do the last one and those before it
 last_at : (f : Cnf) (store : StoreValue) (ps : List PassValue) (p : PassValue) → ArePassesAt f store (ps ++ p ∷ [])
     → ArePassesAt f store ps × IsPassAt f store p
 last_at f store [] p all = (tt, all.0)
