@@ -15,7 +15,8 @@ import sys
 # the least and the most literals of a line, and the least and the most hints
 STREAMS = {"short": ((1, 3), (1, 5)), "long": ((20, 100), (40, 200)),
            "huge": ((100, 100), (50_000, 50_000))}
-# literals of a clause, its approximate bytes, and the number of variables for that many clauses
+# the literals in a clause, its approximate size in bytes, and the number of variables, given the
+# number of clauses
 FORMULAS = {
     "random": (3, 25.5, lambda clauses: max(3, int(clauses / 4.26))),
     "wide": (100_000, 840_000, lambda clauses: 2_000_000),

@@ -2,11 +2,11 @@
 """Asks, as DIMACS CNF, whether a lemma on bit vectors has a counterexample.
 
     lemma.py WIDTH LEMMA > lemma.cnf
-    lemma.py --show WIDTH LEMMA < answer    prints the counterexample in an answer's lines `v`
+    lemma.py --show WIDTH LEMMA < answer    prints the counterexample in an answer's `v` lines
 
-LEMMA is a Python expression over the unsigned numbers a, b, c, d of WIDTH bits and constants: + - &
-| ^ ~, << and >> by a constant, and == < <=. Sums and differences wrap. `when(P, Q)` is 'if P then
-Q', `both(P, Q)` is 'P and Q'."""
+LEMMA is a Python expression over constants and the unsigned numbers a, b, c, d of WIDTH bits. Its
+operators are + - & | ^ ~, << and >> by a constant, and == < <=. Sums and differences wrap.
+`when(P, Q)` is 'if P then Q', `both(P, Q)` is 'P and Q'."""
 import itertools
 import re
 import sys

@@ -24,7 +24,8 @@ typedef struct {
 #endif
 #define MOST_MEMORY (8 * MOST_WORDS)
 
-// such as 2000000000, 2000M or 2G; 0: no size; above MOST_MEMORY: too much
+// The word is a size such as 2000000000, 2000M or 2G. Returns 0 if it isn't a size, and a number
+// above MOST_MEMORY if the size is too large.
 uint64_t memory_read(const char *word);
 // memory, most: bytes; 0: chosen from the machine's memory
 void rows_open(Rows *rows, uint64_t memory, uint64_t most, uint64_t streams);

@@ -1,4 +1,4 @@
-// Unverified, like the whole solver. Outboxes: puts clauses in, and renews their identities from
+// Unverified, like the whole solver. Puts clauses into outboxes, and renews their identities from
 // round to round.
 #include "../exact/checks.h"
 #include "shared.h"

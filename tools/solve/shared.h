@@ -58,7 +58,7 @@ typedef struct {
     int refuted;                // its stream has the line that proves the goal
     int unwritten;              // the stream couldn't be written
     int spilled;                // the record couldn't be written: the stream continues in memory
-    uint64_t kept;              // bytes of the stream that the record then has
+    uint64_t kept;              // if `spilled`: how many bytes of the stream the record has
     char unkept[LONGEST_CAUSE]; // why the record doesn't have more
     char cause[LONGEST_CAUSE];  // why the filter stopped; read it once the filter has ended
     int proof_ended;            // when it ended, it had read the whole proof

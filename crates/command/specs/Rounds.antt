@@ -245,8 +245,8 @@ ProgramEnds files words after out err status =
 
 -- What rounds saved.
 
--- The round saved, for the next one in the folder, a text of a formula over the same variables,
--- whose clauses all follow from this formula.
+-- For the next round, the round saved in the folder a text of a formula over the same variables.
+-- The clauses of that formula all follow from `formula`.
 abbrev pub SavesEntailed : {its : Effects} {given : CommandLine} {cube : CubeValue} → Text → Cnf
     → Round its given cube → Type 0
 SavesEntailed {its} folder formula round =

@@ -137,8 +137,8 @@ replies_agree ownerships.Foreign c Mine Theirs m h rest left d r asked alike is 
 replies_agree ownerships.Outside c Mine Theirs m h rest left d r asked alike is asks mine theirs =
     absurd (let no : events.live d ≡ events.vacant = asks.1 in cc)
 
--- the first history's look-up found this clause; the second history's look-up finds it or lacks it;
--- and the events after both look-ups are fair
+-- the first history's look-up finds this clause; the second history's look-up finds it, too, or
+-- fails because the clause isn't there; and the events after both look-ups are fair
 record LooksAlike (c : StreamParams) (Mine Theirs : ℕ → Clause → Type 0) (m : State) (h : ℕ) (d : Clause) (answer : Result Clause Fault)
     (rest left : History) : Type 0 where
   that : IsThatOrLacks c Mine h d answer

@@ -79,7 +79,7 @@ DroppedOnce =
 
 -- When a checker can be fed
 
--- a new checker can be fed with a view of its stream at the opening of a run
+-- a new checker can be fed, given a view of its stream at the opening of a run
 abbrev pub ReadyNew : Type 0
 ReadyNew = (f : Cnf) (layout : LayoutValue) (cube : CubeValue) (stream tries : ℕ) (v : CheckerValue)
     (p : CallerView)
@@ -88,8 +88,8 @@ ReadyNew = (f : Cnf) (layout : LayoutValue) (cube : CubeValue) (stream tries : �
     → ((id : ℕ) → Owns layout stream id → p.own id ≡ opening f id)
     → IsReadyAt v p
 
--- if a checker can be fed with its stream's view of the one-thread map, another stream's calls
--- don't change that
+-- if a checker can be fed, given its stream's view of the one-thread map, it still can be fed after
+-- another stream's calls
 abbrev pub ReadyBeside : Type 0
 ReadyBeside = (v : CheckerValue) (old new : Plain) (t : ℕ) (es : History)
     → IsReadyAt v (plain_caller_view old v.params.stream) → PlainMoves old new t es

@@ -1,5 +1,5 @@
-//! Rows over a map that counts its calls. Each stream comes whole, byte by byte, and in pieces of
-//! two bytes.
+//! Tables of tests over a map that counts its calls. Each stream comes whole, byte by byte, and in
+//! pieces of two bytes.
 ghost use Rattle.std.specs.Prelude.{◌≡◌, IsSome};
 ghost use Rattle.lrup_model.specs.Event.{History};
 ghost use Rattle.stream_check.specs.Checker.{IsReadyAt};

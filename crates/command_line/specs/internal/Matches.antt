@@ -19,7 +19,7 @@ without_arguments = record {
   subs = [];
 }
 
--- the command with the options that have a number
+-- the command with the options that take a number
 abbrev pub with_numbers : App
 with_numbers = on_top (λ s. record s {
   rules = number_rule (codes "tries") 1000000

@@ -45,7 +45,7 @@ impl<'a> Holds<'a> {
         self.late.load(Ordering::SeqCst)
     }
 
-    /// How many times the call that the first hold waits for was made.
+    /// The first hold waits for a call. This is how many times that call was made.
     pub(super) fn made(&self) -> u64 {
         let first = self.made.first();
         first.map_or(0, |count| count.load(Ordering::SeqCst))

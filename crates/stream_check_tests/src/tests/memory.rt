@@ -38,7 +38,7 @@ fn feed_line<R: Abort, M: ClauseMap>(rt: &R, checker: &mut Checker, map: &mut M,
     is_over
 }
 
-/// Feeds these lines one by one. If the checker is finished early, it has used the whole line.
+/// Feeds `LINES` one by one. If the checker is finished early, it has used the whole line.
 fn feed_lines<R: Abort, M: ClauseMap>(rt: &R, checker: &mut Checker, map: &mut M)
     requires { IsReadyAt checker.old (M.caller_view map.old) }
     ensures { IsSome checker.new.ending }
@@ -72,7 +72,7 @@ fn fed_more<M: ClauseMap>(checker: &mut Checker, map: &mut M) -> (usize, CheckSt
     (more.used, more.status)
 }
 
-/// A checker's report for a stream of these lines.
+/// The checker's report after it was fed `LINES` through stream 1's desk.
 fn said_at_desk<R: Abort>(rt: &R, map: &mut PlainMap, checker: &mut Checker) -> Report
     requires stream { IsStream map.old.layout 1 }
     requires ready { IsReadyAt checker.old (plain_caller_view map.old 1) }
@@ -81,7 +81,7 @@ fn said_at_desk<R: Abort>(rt: &R, map: &mut PlainMap, checker: &mut Checker) -> 
     checker.report()
 }
 
-/// The report for a stream of these lines.
+/// The report of a new checker that was fed `LINES`.
 fn said_of_lines(rt: &impl Abort, alloc: Global) -> Result<Report, Fail> {
     let mut map = open_map(alloc, 2, 15, 2)?;
     let mut checker = checker_at(alloc, &map, 1, 0)?;

@@ -29,7 +29,7 @@ pub record HasRun (run_formula : Cnf) (run_layout : LayoutValue) (blocks : List 
   pub room : (s : ℕ) → IsStream run_layout s
       → free_at map s + spent s (events_in blocks) ≡ run_layout.room
 
--- the worker belongs to stream s, has reached its state through these blocks, and can be fed with
+-- the worker belongs to stream s, has reached its state through these blocks, and can be fed, given
 -- the map
 pub record IsWorking {S : Type 0} (view : SourceView S) (run_params : RunParamsValue)
     (blocks : List Block)
