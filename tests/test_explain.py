@@ -46,7 +46,8 @@ def explain(words: Sequence[object], work: Path, quick: bool = False) -> Ran:
 # Reports.
 
 TITLE = re.compile(r"^(?:round \d+, )?stream (\d+) \(.*\), line (\d+): "
-                   r"(.+?)(?:, of stream \d+, whose line \d+ is bad|, by itself: .*)?$", re.M)
+                   r"(.+?)(?:, of stream \d+, whose line \d+ is bad"
+                   r"|, for a reason of its own: .*)?$", re.M)
 CHAIN = re.compile(r"^  a right chain:((?: \d+)*)(?:    \(if (\d+) isn't deleted\))?$", re.M)
 
 
@@ -506,7 +507,7 @@ FAULTS = [
      "  why: the clause has 2 different literals, and 1 of --room 2 is left: 1 too few\n"
      "       --room 3 is enough for this line, and 5 for all lines of the stream\n"),
     ("not live, deleted before", ["1 d 2 0\n1 d 1 2 0\n"], "", "stream 1 (f1), line 2: not live 2\n"
-     "  why: this stream has deleted 2 before, in its line 1\n"),
+     "  why: this stream already deleted 2, in its line 1\n"),
     ("not live, twice", ["1 d 2 1 2 0\n"], "",
      "stream 1 (f1), line 1: not live 2\n  why: 2 is in this line twice\n"),
     ("not live, never derived", ["1 d 5 0\n" + FIRST], "", "stream 1 (f1), line 1: not live 5\n"

@@ -372,7 +372,7 @@ def read_terminal(leader: int) -> bytes:
 
 
 def shown_on_terminal(words: List[str], count: int, columns: int, work: Path) -> Tuple[bytes, str]:
-    """What the terminal shows until the program's loop has taken some turns and that many progress
+    """What the terminal shows until the program's loop has taken some turns and `count` progress
     lines have come; and standard output."""
     leader, terminal = pty.openpty()
     fcntl.ioctl(terminal, termios.TIOCSWINSZ, struct.pack("HHHH", 24, columns, 0, 0))

@@ -216,7 +216,7 @@ def files() -> List[Row]:
              ("nothing shared", refused, "a 1 0\n", ["--no-share", "-j", "2"],
               "--cubes and --no-share: refuted cubes are shared"),
              ("no engine", refused, "a 1 0\n", ["--solver", "x %formula %proof"],
-              "--cubes without engines: -j sets how many")]
+              "--cubes without engines: -j sets their number")]
     rows += [(f"accepted {text!r}", accepted, text, count)
              for text, count in (("p inccnf\nc a\n1 -2 0\na 1 0\n\na -1 0\n", 2),
                                  ("a 1 -1 0\na 1 1 2 0", 1), ("a 1 -1 0\n", 0),

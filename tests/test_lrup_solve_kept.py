@@ -379,7 +379,8 @@ def read_by_tools(formula: Path, work: Path) -> None:
 
 
 def packed_and_interrupted(number: int, work: Path) -> None:
-    """The unpacking programs end with the check, even before lrupd has opened their pipes."""
+    """If the check is interrupted, the unpacking programs end, too, even if lrupd hasn't opened
+    their pipes yet."""
     files, slow, mark = work / "temporary", work / "slow", marked(work)
     files.mkdir()
     needs("xz")
@@ -491,7 +492,7 @@ STRANGE = [("$(ran).cnf", "FORMULA;.cube"), ("`ran`;ran;", "ASSUME "), ("-$(ran)
 
 
 def strange_outputs(core: str, lrat: str, name: str, assumes: bool, work: Path) -> None:
-    """Right outputs are kept, whatever names they and the formula have."""
+    """Correct outputs are kept, whatever names they and the formula have."""
     formula, cube = (written(generated("pigeons 5", work).read_bytes(), work, name),
                      written("1 0\n", work, f"cube of {name}"))
     words = ["-j", 1, *["--assume", cube.name] * assumes, "--", name]

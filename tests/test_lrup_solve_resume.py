@@ -246,7 +246,7 @@ def by_the_clock(work: Path) -> None:
     want((4 <= rounds <= 13, is_lost), (True, False), f"{rounds} rounds in\n{answer.out}")
     rows = [int(row.replace(",", ""))
             for row in re.findall(r"^c round \d+: .* in a row of ([\d,]+) words", answer.out, re.M)]
-    # A quick machine may fill a row.
+    # A fast machine may fill a row.
     want(max(rows) < 6 * min(rows), True, f"whether rows grow that aren't full: {rows}")
     answer = solve(["-j", "2", "--time", "2", "--resume", kept, formula])
     want((answer.comments[0].startswith(f"{kept}: round {rounds + 1} begins, with "),
@@ -398,7 +398,7 @@ def refused(words: Sequence[object], said: str, work: Path) -> None:
 
 
 def of_another(work: Path) -> None:
-    """Another formula or other assumptions than the record's, and records that can't be resumed."""
+    """A formula or assumptions other than the record's, and records that can't be resumed."""
     marked(work)
     formula, cube, other = (generated("pigeons 8", work), written("1 0\n", work, "cube"),
                             written("2 0\n", work, "other"))

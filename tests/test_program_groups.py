@@ -1,8 +1,8 @@
 """Checks two groups of streams separately, and together.
 
-Streams 1 and 2 cite each other, and so do 3 and 4, but no group cites the other. So each group is
-checked by its own run, with /dev/null in place of the other's streams, and the reports are compared
-with the report on all four."""
+Streams 1 and 2 cite each other, and so do 3 and 4, but neither group cites the other. So each group
+is checked by its own run, with /dev/null in place of the other's streams, and the reports are
+compared with the report on all four."""
 from pathlib import Path
 
 from harness import PROGRAM, Ran, example, parametrized, run, want

@@ -35,7 +35,7 @@ def want_count(program: str, formula: Path, streams: Sequence[Path], wanted: str
     empty = counted(program, [formula, *[os.devnull] * len(streams)], nothing)
     count = counted(program, [formula, *streams], wanted) - empty
     print(f"{count} instructions, of {figure}, or 5 % more or less")
-    assert abs(count - figure) <= MARGIN * figure, "another count than the recorded figure"
+    assert abs(count - figure) <= MARGIN * figure, "the count differs from the recorded figure"
 
 
 def four_solvers(program: str, work: Path) -> None:

@@ -392,7 +392,7 @@ def pause(program: str, way: List[str], work: Path) -> None:
 def many(count: int, limits: str, options: str, program: str, way: List[str], work: Path) -> None:
     """The formula says that x1 holds, that each variable implies the next, and that the last
     doesn't hold: round R derives the next variable, and drops what it used. No file stays open, and
-    no memory is kept: the limits would suffice for only a few rounds."""
+    no memory is kept; otherwise the limits would suffice for only a few rounds."""
     texts, saved = [], []
     for number in range(1, count):
         clauses = count + 2 - number

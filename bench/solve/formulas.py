@@ -48,7 +48,7 @@ FAMILIES = {
     # A prime has no factors.
     "factoring": (("factor 4294967291", "32 bits"), ("factor 8589934583", "33 bits"),
                   ("factor 17179869143", "34 bits")),
-    # Identities of words, bit-blasted as in an SMT solver.
+    # Identities over bit vectors, bit-blasted as in an SMT solver.
     "bit vectors": (("distribute 7", "(a + b) c = a c + b c, 7 bits"),
                     ("squares 9", "(a + b) (a - b) = a a - b b, 9 bits"),
                     ("count 72", "the ones of 72 bits")),

@@ -441,7 +441,7 @@ static void why_not_live(const Replay *replay, const Stream *stream, uint64_t id
         printf("  why: no line of this stream has derived %llu", (Printed)identity);
         printf(later ? "; line %llu does, which comes later\n" : "\n", (Printed)later);
     } else if (line <= stream->lines) {
-        printf("  why: this stream has deleted %llu before, in its line %llu\n", (Printed)identity,
+        printf("  why: this stream already deleted %llu, in its line %llu\n", (Printed)identity,
                (Printed)line);
     } else {
         printf("  why: %llu is in this line twice\n", (Printed)identity);

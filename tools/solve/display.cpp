@@ -227,7 +227,7 @@ void Display::summary() const {
     std::string left_of = left < teams.size() && inputs.contradiction().empty()
         ? std::to_string(left) + " of "
         : "";
-    std::string of_rounds = format("%llu rounds with %.1f %% of pauses, ",
+    std::string of_rounds = format("%llu rounds with %.1f %% of the time in pauses, ",
                                    (unsigned long long)rounds.number, 100 * rounds.paused / wall);
     const char *what = inputs.options.check ? "proof" : "engine",
                *ran = inputs.options.check ? "reading" : "engines";

@@ -32,7 +32,7 @@ namespace {
 const uint64_t EXCHANGING = 500;        // milliseconds
 const double STARTING = 600;            // seconds
 
-// Decides from the variables that mpirun and SLURM's launcher set before MPI is initialised.
+// For use before MPI is initialised: reads the variables that mpirun and SLURM's launcher set.
 bool is_process_0() {
     for (const char *name : { "OMPI_COMM_WORLD_RANK", "PMIX_RANK", "PMI_RANK" })
         if (const char *rank = getenv(name)) return atoi(rank) == 0;

@@ -185,7 +185,7 @@ void check_engines(const Options &options) {
     if (options.solvers.size() + size_t(options.engines) > MOST_ENGINES)
         refuse("more than 64 engines, including solvers");
     if (options.cubes && options.engines == 0 && !options.solvers.empty())
-        refuse("--cubes without engines: -j sets how many");
+        refuse("--cubes without engines: -j sets their number");
     if (options.cubes && !options.share && options.engines != 1)
         refuse("--cubes and --no-share: refuted cubes are shared");
     if (!options.solvers.empty() && options.mpi)

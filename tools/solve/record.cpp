@@ -330,7 +330,7 @@ void open_record(const std::string &folder, const std::vector<std::string> &inpu
     if (size_t rounds = replaces ? 0 : rounds_to_resume())
         refuse(folder + " has " + counted(rounds, "round") +
                " of an earlier run: lrup-solve --resume " + quoted(folder) +
-               " continues it, --replace removes them");
+               " continues it, --replace removes it");
     if (list_file < 0 && !list_anew({})) refuse_unlisted(folder);
 }
 

@@ -448,7 +448,7 @@ bool Teams::spill(size_t k) {
     return true;
 }
 
-// A filter that died may have left in the record lines that lrupd didn't get, and part of a line.
+// A filter that died may have left lines in the record that lrupd didn't get, and part of a line.
 void Teams::cut_streams() {
     look_at_record();
     for (size_t k = 0; k < list.size() && inputs.options.proofs && lost.empty(); k++)

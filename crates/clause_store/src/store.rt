@@ -206,7 +206,7 @@ impl Store {
     }
 }
 
-/// The index in the row of word `k`, counted from 0, of a clip's clause.
+/// The row index of word `k` (counted from 0) of a clip's clause.
 #[inline]
 fn place_of(clip: &Clip, k: u32) -> u64
     ensures { result ≡ clip.now.start + k }

@@ -32,7 +32,7 @@ use Rattle.run_laws.proofs.SwapLemmas.{gone_stays}
 use Rattle.run_laws.proofs.WalkLemmas.{own-calls}
 use Rattle.run_laws.proofs.StreamLemmas.{IsJudgedStream, judged_stream, is_inside, inside_owner, fetched_inside}
 
--- An identity that is retired after a history was retired in it, or before it
+-- If an identity is retired after a history, it was retired in the history or before it
 
 gone_back : (m : State) (e : Event) (id : ℕ) → IsRetired (after m e id) → IsRetired (m id) ⊎ IsRetireOf id e
 gone_back m (events.fetch s j r) id is_dropped = inl is_dropped

@@ -113,7 +113,7 @@ ready_inside h read ending v p is ready =
 pub reads_on : (r : ReaderState) (read : List ℕ) → r ≡ Ok read → r ≡ Ok (read_of r)
 reads_on r read e = e ∙ ap (λ (b : List ℕ). Ok b) (sym (ap read_of e))
 
--- if bytes finish the state that a checker holds, they finish the checker
+-- if bytes lead from the state that a checker holds to a report, they lead from the checker to it
 pub feeds_finished : (h : StreamStateValue) (read used : List ℕ) (blocks : List History) (free : ℕ) (ending : Option Ending)
     (report : Report)
     (is_dropped : ℕ → Bool) → ending ≡ None

@@ -40,7 +40,7 @@ static long now(void) {
     return time.tv_sec * 1000 + time.tv_nsec / 1000000;
 }
 
-// The time is measured by the clock, since the front doesn't wait for the supervisor for ever.
+// Reads the clock instead of counting sleeps, since the front waits only for a limited time.
 static bool all_end_within(long milliseconds) {
     for (long until = now() + milliseconds; now() < until; usleep(1000))
         if (!take_ends()) return true;

@@ -109,7 +109,7 @@ pub(super) struct OpenFile<'a> {
 }
 
 impl<'a> OpenFile<'a> {
-    /// An open file of this text. Read number `fails_at`, counted from 1, fails; if `fails_at` is
+    /// An open file with this text. Read number `fails_at`, counted from 1, fails; if `fails_at` is
     /// 0, no read fails.
     pub(super) fn new(setup: &Setup<'a>, text: &'a str, fails_at: usize) -> OpenFile<'a>
         ensures left { result.text.left.now ≡ text.now }

@@ -522,8 +522,8 @@ fn said_of_one_that_goes<T: Threads + Wait + Clock + Sync>(
     Ok(checked.report)
 }
 
-/// The checking thread sleeps at an empty ring, and the other end, when it is dropped, wakes that
-/// thread. The stream has no report.
+/// The checking thread sleeps because its ring is empty, and the other end, when it is dropped,
+/// wakes that thread. The stream has no report.
 #[test]
 fn a_reading_job_that_goes(rt: HostRuntime) -> Result<(), Fail> {
     for _ in 0..100 {
