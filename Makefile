@@ -218,7 +218,7 @@ $(OBJECTS)/flags $(SOLVE_OBJECTS)/flags: FORCE | c-and-python
 FORCE:
 -include $(wildcard $(OBJECTS)/*/*/*.d $(SOLVE_OBJECTS)/*/*/*.d $(SOLVE_OBJECTS)/*/*/*/*.d)
 
-# The check also compiles with clang if that is installed.
+# `make warnings` also compiles with clang if that is installed.
 IN_C := $(addprefix tools/,exact trim explain) examples/solver
 C_SOURCES := $(wildcard $(addsuffix /*.c,$(IN_C) tools/solve tools/solve/front tests))
 C_HEADERS := $(wildcard $(addsuffix /*.h,$(IN_C))) \

@@ -20,7 +20,7 @@ def shown(path: Path) -> str:
 
 @functools.lru_cache(maxsize=None)
 def crates() -> Dict[str, List[str]]:
-    """The crates in crates.txt, each with those that it uses, also libraries of the toolchain."""
+    """The crates in crates.txt, each with the crates and the toolchain's libraries that it uses."""
     lines = re.findall(r"^(\w+):(.*)", (ROOT / "crates.txt").read_text(), re.M)
     return {crate: uses.split() for crate, uses in lines}
 

@@ -6,8 +6,8 @@
 
 For each function with clauses it prints their names, and how many have no name; the gate's edits
 that change the function; and those of gate/edits, in brackets. A public function that no edit
-changes has 'no edit', unless it is a law, which has no body. An edit belongs to the function that
-contains its first old text.
+changes is marked 'no edit', unless it is a law, which has no body. An edit belongs to the function
+that contains its first old text.
 
 On docs/PROMISES.md each name in backticks below a crate's name has to be one of the crate's
 functions, clauses or laws. A lemma is none of these.

@@ -209,8 +209,8 @@ def all_below(crate: str) -> Set[str]:
 
 
 def normal(statement: str) -> Optional[str]:
-    """A lemma's statement, numbers replacing the names that it binds; None for a function, whose
-    type says nothing about its arguments."""
+    """A lemma's statement, with numbers replacing the names that it binds; None for a function,
+    whose type says nothing about its arguments."""
     found = re.findall(r"[({]([^(){}:]+) :|λ ([^\s.]+)\.", statement)
     bound = " ".join(names + single for names, single in found).split()
     words = r"[^\s(){}\[\],;.]+"

@@ -12,7 +12,7 @@ UNSATISFIABLE, SATISFIABLE = 20, 10
 
 def solved(formula: Path, count: int, options: Sequence[object],
            work: Path) -> Optional[List[Path]]:
-    """The streams of that many solvers; None if the formula is satisfiable."""
+    """The streams of `count` solvers; None if the formula is satisfiable."""
     streams = [work / f"stream{number}" for number in range(1, count + 1)]
     status = run([SOLVER, *options, formula, *streams]).status
     want(status in (UNSATISFIABLE, SATISFIABLE), True, f"the solver's status {status}")
@@ -28,7 +28,7 @@ def random_formula(numbers: random.Random) -> Tuple[int, List[Clause]]:
 
 def refuted(numbers: random.Random, count: int, options: Sequence[object],
             work: Path) -> Tuple[Path, List[Path]]:
-    """A random unsatisfiable formula, and the streams of that many solvers."""
+    """A random unsatisfiable formula, and the streams of `count` solvers."""
     while True:
         formula = written(dimacs(*random_formula(numbers)), work)
         streams = solved(formula, count, options, work)

@@ -231,7 +231,7 @@ def dimacs(variables: int, clauses: Sequence[Sequence[int]]) -> str:
 
 def random_clauses(numbers: random.Random, variables: int, count: int,
                    lengths: Sequence[int] = (3,)) -> List[List[int]]:
-    """Random clauses over that many variables, each with one of these lengths."""
+    """`count` random clauses over this many variables, each with one of these lengths."""
     clauses = []
     for _ in range(count):
         chosen = numbers.sample(range(1, variables + 1), min(variables, numbers.choice(lengths)))

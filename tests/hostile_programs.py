@@ -141,7 +141,7 @@ for name in os.listdir('/proc'):
 # the front is killed
 os.kill(int(front), 9); time.sleep(1000)
 """
-# For a formula that has no model, and PROOF as its proof.
+# For a formula that has no model, and whose proof is PROOF.
 PROVING = """
 # lrupd is stopped and continued
 waits(); children(1, turns, pid); feeding.write(PROOF); feeding.close(); hears('lrupd')

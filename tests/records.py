@@ -151,7 +151,7 @@ CHANGES: Dict[str, Change] = {
 
 
 def want_no_other(answer: Answer, status: int, formula: Path, kept: Path, names: str) -> None:
-    """Checks that the answer is right, or that there is none, and a message names one of these
+    """Checks that the answer is right, or that there is no answer and a message names one of these
     files."""
     if answer.status == status:
         answer.said = ""

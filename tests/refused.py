@@ -161,7 +161,7 @@ class Machine:
         return "; of {} threads {} had begun, and {} ended".format(*counts) if counts else ""
 
     def has_waited_for(self, count: int) -> bool:
-        """Whether that many threads were started before the refused one, and all had begun and
+        """Whether `count` threads were started before the refused one, and all had begun and
         ended when the refusal was reported."""
         return self.mark.read_text().split() == [str(count)] * 3
 
@@ -374,7 +374,7 @@ def in_turn(kind: str, how: str, given: InRounds) -> List[Answer]:
     found = [given.stopped(1, "cannot read formula", 5)]
     for number in range(1, given.reached + 1):
         if number > 1:
-            # Without a file of sizes, the previous round's sizes apply: they equal the file's.
+            # If a file of sizes seems missing, the previous round's sizes apply, which are equal.
             found.append(given.ended(given.count) if how == "ENOENT"
                          else given.stopped(number, "cannot read sizes", 5))
         found += [failed_opening(number, stream, how, given) for stream in streams
@@ -415,8 +415,8 @@ def without_memory(given: InRounds) -> Iterator[Answer]:
 
 
 def is_failed_stream(answer: Answer, cause: str, given: InRounds, machine: Machine) -> bool:
-    """Whether one stream ended with this cause at a line, and no round follows. Then the answer and
-    checkpoint have to be those of a run of this round only, in which the stream ends there."""
+    """Whether one stream ended with this cause at a line, no round follows, and the answer and
+    checkpoint are those of a run of this round only, in which the stream ends there."""
     failed = re.findall(rf"^c stream (\d+): .*, {cause} at line (\d+)$", answer.out, re.M)
     number = int((re.findall(r"^c round (\d+)$", answer.out, re.M) or [1])[0])
     if len(failed) != 1 or number > given.count:

@@ -280,7 +280,7 @@ def other_hints_alone(seed: int, work: Path) -> None:
 
 
 def cited_by(text: str) -> Set[int]:
-    """Those identities in hints and imports that are numbers."""
+    """The identities in hints and imports, except those that aren't numbers."""
     found: Set[int] = set()
     for line in text.splitlines():
         words = line.split()

@@ -184,8 +184,8 @@ def many_at_once(count: int, work: Path) -> None:
 
 
 def wide(count: int, refuted: bool, work: Path) -> None:
-    """A clause whose literals are all false. If two lines can't hold their units, the filter
-    stops."""
+    """A clause whose literals are all false. If two lines can't hold the units that make them
+    false, the filter stops."""
     units = "".join(f"{variable} 0\n" for variable in range(1, count + 1))
     formula = written(f"p cnf {count} {count + 1}\n{units}"
                       + " ".join(f"-{variable}" for variable in range(1, count + 1)) + " 0\n", work)

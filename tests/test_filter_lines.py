@@ -100,8 +100,8 @@ def compressed(name: str, words: List[str], work: Path) -> None:
 
 
 def bad_other(line: str, work: Path) -> None:
-    """The file of --other isn't LRAT text over the formula's literals, with increasing
-    identities."""
+    """The file of --other isn't LRAT text with increasing identities over the formula's
+    literals."""
     other = written(f"{line}\n8 2 0 1 2 0\n", work, "other")
     stops(FOUR, FIRST + "7 1 -2 0 8 0\n", f"line 2: {other}: ", FIRST,
           ONE_OF_TWO + ["--other", f"2={other}"], work)
@@ -166,9 +166,9 @@ def refusals() -> List[Row]:
         ("an identity below the one before", FOUR, "7 2 0 1 2 0\n6 0 7 3 4 0\n",
          "line 2: the identity 6", "7 2 0 1 2 0\n", []),
         ("an import of its own", FOUR, FIRST + "5 i 2 0\n",
-         "line 2: an import of 5, which is no clause", FIRST, []),
+         "line 2: an import of 5, which isn't a clause", FIRST, []),
         ("an import of nothing", FOUR, "0 i 2 0\n",
-         "line 1: an import of 0, which is no clause", "", []),
+         "line 1: an import of 0, which isn't a clause", "", []),
         ("an import of another clause", FOUR, "1 i 1 2 1 0\n1 i 1 0\n",
          "line 2: the literals of the import aren't those of the clause 1", "1 i 1 2 1 0\n", []),
         ("two imports that differ", FOUR, "6 i 1 2 0\n6 i 2 0\n",

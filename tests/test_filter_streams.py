@@ -120,7 +120,7 @@ def without_hints(program: str, formula: Path, proof: Path, stream: int, count: 
 
 
 def as_lrat(formula: Path, proof: Path, work: Path) -> None:
-    """An LRAT checker accepts the output for a single proof, and finds faults put into it."""
+    """An LRAT checker accepts the output for a single proof, and finds faults in changed output."""
     text, said, status = exact([formula, proof])
     clauses, lines = read_formula(formula), text.splitlines(True)
     want((lrat_fault(clauses, text), said, status), ("", "", 0), "as LRAT")

@@ -533,7 +533,7 @@ def options_listed(work: Path) -> None:
 
 def rests_on(what: str, count: int, found: str, variables: Tuple[int, int], early: str,
              work: Path) -> None:
-    """Runs that many formulas with the rule and without it, and more if no run without it broke,
+    """Runs `count` formulas with the rule and without it, and more if no run without it broke,
     which depends on timing. Without the rule, a stream waits a second, not a minute, for a clause
     that never comes."""
     seen = {True: 0, False: 0}

@@ -69,8 +69,8 @@ def assuming(literals: str, body: str, wanted: str, status: int, work: Path) -> 
 
 
 def dies_at_each_moment(number: int, work: Path) -> None:
-    """The program dies after each of its steps towards a verdict, by a signal, with a status, or
-    while others hold its files open."""
+    """After each of its steps towards a verdict, the program ends by a signal, with a status, or
+    while a child holds its files open."""
     steps = ["hears('probe')", "stream(1, %r)" % PROOF[:14], "stream(2, '')",
              "check('2 10 10 1000000')", "stream(1, %r)" % PROOF, "hears('lrupd')"]
     for end in ("os.kill(os.getpid(), 9)", "os.kill(os.getpid(), 11)", "os._exit(0)", "os._exit(1)",

@@ -231,7 +231,7 @@ class Given(NamedTuple):
 
 
 def signalled(numbers: random.Random, most: int, given: Given, work: Path) -> int:
-    """Sends at most that many signals to a run; returns how many the run got before its end."""
+    """Sends at most `most` signals to a run; returns how many the run got before its end."""
     files, mark, limit = work / "temporary", marked(work), numbers.choice((2, 3, 4))
     history: List[Tuple[str, str]] = []
     files.mkdir()

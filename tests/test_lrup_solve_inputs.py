@@ -266,7 +266,7 @@ LISTS = ["link", "hard link", "pipe", "", "\n", "files", "report\n", "files\n../
 
 
 def formula_of_a_round(work: Path) -> None:
-    """The formula is in the record, with the name of a saved round."""
+    """The formula is in the record's folder, under a name that lrupd gives to saved rounds."""
     kept = work / "kept"
     formula = written(generated("random 180 3", work).read_bytes(), kept, "round-1.cnf")
     words, text = ["-j", "2", "--replace", "--proofs", kept, formula], formula.read_text()

@@ -101,7 +101,7 @@ class Kills:
         return self.running.poll() is not None
 
     def kill(self, most: float) -> None:
-        """Waits until lrupd can be killed, and kills it at most that many seconds later."""
+        """Waits until lrupd can be killed, and kills it at most `most` seconds later."""
         until("lrupd is there", lambda: self.lrupd() != 0 or self.has_ended())
         if len(self.rounds) > 1:
             until("a round has ended", lambda: self.round() > self.rounds[-2] or self.has_ended())

@@ -361,8 +361,8 @@ def ends(process: int, name: str, number: int, cause: str, work: Path) -> None:
 
 
 def files_of_mpi(work: Path) -> None:
-    """Open MPI's files are removed with the processes, even if all but the cleaners are killed at
-    once."""
+    """Open MPI's files are removed when the processes end, even if all but the cleaners are killed
+    at once."""
     running = Running(generated("pigeons 11", work), 2)
     until("each process has its file", lambda: running.segments() == 2)
     for pid in {pid for one in running.ids for name, pid in one.items() if name != "cleaner"}:

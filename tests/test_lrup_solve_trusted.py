@@ -110,7 +110,7 @@ def prints(front: Path, work: Path) -> bool:
 
 
 def as_expected(front: Path, work: Path) -> bool:
-    """There is no answer, but the status says that it is the expected one."""
+    """No answer is printed, but the status says that the expected one was."""
     return answer_of(front, work, "hears('probe')", ["--expect", "unsat"]).status == 0
 
 

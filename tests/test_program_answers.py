@@ -41,7 +41,8 @@ def recorded(name: str, options: str, *files: str) -> Named:
 
 def streams(name: str, options: str, status: int, *said_and_text: Any,
             formula: str = FOUR) -> Named:
-    """For each stream come its line in the report, and its text or the function that makes it."""
+    """A run of these streams, each given as its line in the report, and its text or the function
+    that makes it."""
     said, texts = said_and_text[::2], said_and_text[1::2]
     names = [f"stream{number}" for number in range(1, len(texts) + 1)]
     files = {"formula": formula, **dict(zip(names, texts))}

@@ -1,8 +1,9 @@
 """Runs the program with --checkpoint, and compares its answers and checkpoints.
 
-Rows have the checkpoint's bytes; for recorded streams, these are computed from the rules. If no
-file may be created, nothing is touched; if saving fails, there is still a report. A checkpoint is a
-formula that the program accepts; a part of a checkpoint, as a full disk leaves it, isn't."""
+Rows give the checkpoint's expected bytes; for recorded streams, they are computed from the rules.
+If no file may be created, nothing is touched; if saving fails, there is still a report. A
+checkpoint is a formula that the program accepts; a part of a checkpoint, as a full disk leaves it,
+isn't."""
 import os
 import shutil
 from pathlib import Path

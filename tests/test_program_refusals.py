@@ -90,7 +90,7 @@ def sweep(machine: Machine, given: Input, kind: str, how: str) -> Tuple[int, Lis
 
 
 def clauses(count: int) -> str:
-    """A formula with that many clauses, short and long ones in turn."""
+    """A formula with `count` clauses, short and long ones in turn."""
     return f"p cnf 12 {count}\n" + count // 2 * "1 2 0\n1 2 3 4 5 6 7 8 9 10 11 12 0\n"
 
 
@@ -322,7 +322,7 @@ def unjoined(folder: Path) -> None:
 
 
 def leave(machine: Machine, folder: Path, count: int) -> Tuple[int, List[str]]:
-    """Refuses each thread in turn, beside that many pipes that stay open after their first line.
+    """Refuses each thread in turn, beside `count` pipes that stay open after their first line.
     Returns how many threads were refused, and what went wrong.
 
     The run has to end all the same, and to read no pipe.

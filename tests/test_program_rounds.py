@@ -414,7 +414,7 @@ def many(count: int, limits: str, options: str, program: str, way: List[str], wo
 
 
 def special_rows(way: List[str]) -> Iterator[Row]:
-    """Rows that aren't in tables; their functions also get the program and the way."""
+    """Rows that aren't in tables; their functions also get the program and `way`."""
     yield "a producer", whole_when_opened
     for name, forge in FORGERIES.items():
         for at in "d/round-2.sizes", stream_name(2), stream_name(2, 2):

@@ -192,7 +192,7 @@ NO_ROOM = "1 added, 0 deleted, bad line 2 (no room)"
 def sizes() -> Iterator[Named]:
     """Each limit from both sides; without a file of sizes, the previous round's sizes apply."""
     def second(text: str, said: str, saved: str, options: str = "") -> Iterator[Named]:
-        """The two lines in round 2, with sizes of this text."""
+        """The two lines in round 2, whose file of sizes has this text; no file if it is ''."""
         yield from rounds(f"sizes {text!r} {options}", 3, [[""], [LINES]], last(2, [said], 3),
                           saved=[FOUR, saved], options=options,
                           others=sized(2, text) if text else {})

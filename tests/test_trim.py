@@ -132,7 +132,7 @@ def recorded(formula: str, streams: Sequence[str], rounds: int, work: Path) -> N
 
 
 def proof_in_rounds(formula: Path, streams: List[Path], rounds: int, work: Path) -> List[Path]:
-    """The streams, or a folder of that many rounds."""
+    """The streams if `rounds` is 0, otherwise a folder with that many rounds."""
     if rounds == 0:
         return streams
     want(run([sys.executable, CHAIN, rounds, formula, work / "rounds", *streams]), Ran("", "", 0),
@@ -354,8 +354,8 @@ def garbled_trim(found: Garbled, formula: Path, rehints: bool,
 
 
 def garbled(number: int, work: Path) -> None:
-    """Either lrupd accepts both outputs and the LRAT checker accepts its own, or neither accepts
-    any."""
+    """Either lrupd accepts both outputs and the LRAT checker accepts the LRAT text, or neither
+    checker accepts anything."""
     numbers = random.Random(f"{number} garbled")
     found = base(number, work)
     for name in numbers.sample(sorted(found.files), numbers.randint(1, min(2, len(found.files)))):
@@ -377,8 +377,8 @@ def no_hints(work: Path) -> None:
 
 
 def satisfiable(number: int, work: Path) -> None:
-    """Streams of another formula, garbled or not: a needed clause is replaced by a copy of another
-    one. Nothing is accepted; the filter finds no hints."""
+    """Streams of another formula, garbled or not: this one has a copy of another clause in place of
+    a needed one. Nothing is accepted; the filter finds no hints."""
     numbers = random.Random(f"{number} satisfiable")
     found = base(number % 6, work)      # all clauses are needed
     clauses = read_formula(found.formula)

@@ -37,7 +37,7 @@ for file in "$top"/LICENSE* "$top"/COPYING* "$top"/copyright; do
 done
 gzip -9nf "$root"/usr/share/man/man1/*.1
 
-# dpkg-shlibdeps needs a source package around it, and must not get lrup-chain, which is a script.
+# dpkg-shlibdeps runs only in a source package. It must not get lrup-chain, which is a script.
 mkdir "$work/debian"
 printf 'Source: lrupd\n\nPackage: lrupd\nArchitecture: any\n' > "$work/debian/control"
 depends=$(cd "$work" && find "$root/usr" -path "$root/usr/share" -prune -o ! -name lrup-chain -type f -exec dpkg-shlibdeps -O {} + | sed -n 's/^shlibs:Depends=//p')

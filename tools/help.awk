@@ -2,9 +2,9 @@
 #
 #     awk -v program=lrup-check -f tools/help.awk docs/lrup-*.1
 #
-# The program's own page has the synopsis and, up to .Pp, what the program does. Of each item of a
-# list below a comment like 'help of lrup-solve, lrup-check', the text up to the end of the first
-# sentence is used.
+# The program's own page has the synopsis and, up to .Pp, what the program does. A list below a
+# comment like 'help of lrup-solve, lrup-check' is used, too: each item up to the end of its first
+# sentence.
 
 # Returns the line without macros.
 function plain(line,    end, name) {

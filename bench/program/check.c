@@ -6,8 +6,8 @@
 // each stream has a thread, and a hint that names another stream's clause is tried a million times,
 // a microsecond apart. All streams share one array of pointers to clauses; a pointer's lowest bit
 // means that the clause was retired. Each stream has N identities, 65,536 by default; room has no
-// limit. For good streams it prints the same report as lrupd; for a bad line it names a hint's
-// fault, and otherwise prints 'not taken'.
+// limit. For good streams it prints the same report as lrupd; for a bad line it names a fault of
+// the hints or of a deleted identity, and prints 'not taken' for any other fault.
 #include <fcntl.h>
 #include <stdatomic.h>
 #include <stdint.h>

@@ -1,5 +1,5 @@
 #!/usr/bin/awk -f
-# show.awk FORMULA ANSWER: prints the values that an answer's lines `v` give to the bits that
+# show.awk FORMULA ANSWER: prints the values that an answer's `v` lines give to the bits that
 # the formula's comments `c NAME LITERAL` name. The bits of a word are named NAME[0], NAME[1] ..
 NR == FNR { if ($1 == "c") { names[++count] = $2; literals[count] = $3 } next }
 $1 == "v" { for (k = 2; k <= NF; k++) is_true[$k] = 1 }

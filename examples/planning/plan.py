@@ -3,7 +3,7 @@
 each.
 
     plan.py DOMAIN PROBLEM STEPS > plan.cnf
-    plan.py --show DOMAIN PROBLEM STEPS < answer    prints the plan in the lines `v` of an answer
+    plan.py --show DOMAIN PROBLEM STEPS < answer    prints the plan in an answer's `v` lines
 
 DOMAIN and PROBLEM are PDDL with only STRIPS: conjunctions, and `not` in effects; no types, no
 equality."""

@@ -90,8 +90,8 @@ void proof_delete(Proof *proof, const Identities *identities) {
     proof->deleted += identities->length;
 }
 
-// "id i literals 0": this solver took over that clause of another solver, whose line was
-// flushed before. An import uses no identity of its own.
+// "id i literals 0": this solver took over that clause, whose line another solver flushed
+// before. An import uses no identity of its own.
 void proof_import(Proof *proof, uint64_t identity, const Literal *literals, size_t length) {
     put_number(proof, identity);
     put_byte(proof, ' ');

@@ -1,8 +1,8 @@
 // Unverified, like the whole filter. Option --rounds: writes a stream for each round of lrupd
 // --rounds, through FIFOs. Each FIFO exists before the previous round's stream ends, since lrupd
-// then looks for it. Once lrupd has opened the FIFO, this program removes both the FIFO and the
-// file of sizes; it removes each checkpoint after reading it. So the folder has files of an
-// unfinished round only while this program waits for lrupd.
+// looks for the next FIFO when a stream ends. Once lrupd has opened the FIFO, this program removes
+// both the FIFO and the file of sizes; it removes each checkpoint after reading it. So the folder
+// has files of an unfinished round only while this program waits for lrupd.
 #define _XOPEN_SOURCE 700
 #include <dirent.h>
 #include <errno.h>
@@ -98,7 +98,7 @@ static void remove_files(void) {
     is_awaited = 0;
 }
 
-// If lrupd is opening the FIFO, or is about to, it gets an empty stream, or finds no file.
+// An lrupd that is opening the FIFO gets an empty stream; one that comes later finds no file.
 static void end_by_signal(int number) {
     if (is_awaited) {
         openat(held, name_in(stream), O_RDWR | O_NONBLOCK | O_NOFOLLOW);  // until this process ends

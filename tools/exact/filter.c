@@ -9,18 +9,18 @@
 #include "write.h"
 
 enum { DEAD_WORDS = 1 << 15 };      // fewer aren't given back
-enum { WORDS_OF_A_STEP = 1 << 11 };  // that filter_check may visit for each step
+enum { WORDS_OF_A_STEP = 1 << 11 };  // words that filter_check may visit for each step
 
-// A tautology is never unit, nor a conflict.
+// A tautology is never unit or a conflict.
 static void make_known(Filter *filter, ClauseRef ref) {
     if (clause_at(&filter->clauses, ref)->flags & TAUTOLOGY) return;
     PUSH(&filter->propagation.waiting, ref);
     if (!filter->frat) clauses_keep_set(&filter->clauses, ref);
 }
 
-// In FRAT, the proof names the formula's clauses; otherwise their order does. Of `formula`, only
-// the two counts are kept. LRAT's identities aren't used in rounds, since gaps between them would
-// count towards the row's lines.
+// In FRAT, the proof names the formula's clauses; otherwise their order gives the names. Of
+// `formula`, only the two counts are kept. LRAT's identities aren't used in rounds, since gaps
+// between them would count towards the row's lines.
 void filter_open(Filter *filter, bool frat) {
     Formula *formula = &filter->formula;
     Literals *literals = &filter->literals;
@@ -394,8 +394,8 @@ void filter_take_over(Filter *filter, uint64_t identity, const int64_t *literals
 
 // Deletions.
 
-// Gives back the memory of deleted clauses if it is half of the row, and large compared with what a
-// move visits.
+// Gives back the memory of deleted clauses if it is at least half of the row, and large compared
+// with what a move visits.
 static void give_back(Filter *filter) {
     Clauses *clauses = &filter->clauses;
     if (filter->busy) return;

@@ -76,8 +76,8 @@ void Front::find(int &count, char **&words) {
     output_of_lrupd = name(of_lrupd);
 }
 
-// On another host, a name in /proc may lead to another file, or to none. So the words also have the
-// inode of the pipe.
+// On another host, a name in /proc may lead to another file, or to none. So the words also contain
+// the inode of the pipe.
 std::vector<std::string> Front::words() const {
     struct stat found;
     if (fstat(file, &found) != 0) refuse("cannot find lrup-solve: " + error_text());

@@ -112,7 +112,7 @@ struct Front {
 private:
     int pid = 0, told = -1, hears = -1;                 // its descriptors
     uint64_t number = 0;                                // the inode of the pipe `told`; 0: unknown
-    int file = -1, heard = -1;                          // from it, and to it
+    int file = -1, heard = -1;                          // pipes: from the front, and to it
     std::string given, unread;
 
     std::string name(int number_of_file) const { return "/proc/" + std::to_string(pid) + "/fd/" + std::to_string(number_of_file); }

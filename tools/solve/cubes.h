@@ -37,14 +37,14 @@ public:
     // call after a slice; gone: whether a variable (index: from 1) was eliminated
     void look(const std::vector<unsigned char> &gone);
     bool is_refuted() const;            // after status 20: only the cube, not the formula
-    void tell_refuted();                // once the clause is given away
+    void tell_refuted();                // call once the refuting clause is given away
 
 private:
     const Engine &engine;
     CaDiCaL::Solver &solver;
     EngineStatus &engine_status;
     const bool takes;
-    int idle;                           // calls of `look` until it isn't idle any more
+    int idle;                           // calls of `look` until the engine isn't idle any more
     Cube literals;
     // the cube's number; a bit for each variable of cubes, set if it is frozen here
     uint64_t number = 0, kept = 0;

@@ -134,7 +134,7 @@ private:
         if (size_t(engine.options->engines) > engine.options->solvers.size() + 1) differ();
         if (test_hooks.set) {
             std::istringstream list(test_hooks.set);
-            bool any = false;       // a version of CaDiCaL may lack some
+            bool any = false;       // a version of CaDiCaL may lack some options
             for (std::string word; list >> word;)
                 any |= solver.set_long_option(("--" + word).c_str());
             if (!any) abort();
@@ -175,8 +175,8 @@ private:
             solver.assume(engine.formula->variables + 1);
     }
 
-    // Whether only the cube is refuted. Then the clause that refutes it is given away, whatever its
-    // length.
+    // Whether only the cube is refuted. If so, the clause that refutes it is given away, whatever
+    // its length.
     bool refutes_cube() {
         if (!cubes.is_refuted()) return false;
         collect_failed();
@@ -270,8 +270,9 @@ private:
         if (!test_hooks.without_order) add_clause();
     }
 
-    // Takes all units and binary clauses, and at most MOST_TAKEN longer ones; it never takes the
-    // rest. Then the proof says that none of the clauses so far will be asked for again.
+    // Takes all units, binary clauses and clauses that refute cubes, and at most MOST_TAKEN others;
+    // it never takes the rest. Then the proof says that none of the clauses so far will be asked
+    // for again.
     void take_over() {
         look_for_witnesses();
         int left = MOST_TAKEN;

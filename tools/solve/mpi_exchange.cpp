@@ -4,8 +4,8 @@
 // either, since newer ones come.
 //
 // Only clauses of the current round are sent and taken. Their lines are sent before them, and lrupd
-// saves them at the round's end, since no stream deletes what it gave away in the round. Clauses
-// that arrive later are dropped.
+// saves these clauses at the round's end, since no stream deletes what it gave away in the round.
+// Clauses that arrive later are dropped.
 #include <algorithm>
 
 #include "mpi_run.h"

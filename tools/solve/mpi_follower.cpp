@@ -17,7 +17,7 @@ namespace {
 
 const double LATE = 0.002;              // seconds between pieces, in tests that send lines late
 const double LEAVING = 10, ENDING = 10, STARTING = 600;     // seconds
-const uint64_t DROPPED = UINT64_C(1) << 22, PAGE = 4096;    // bytes that are given back together
+const uint64_t DROPPED = UINT64_C(1) << 22, PAGE = 4096;    // bytes of a stream, freed together
 
 class Follower {
 public:

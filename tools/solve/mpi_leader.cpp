@@ -47,7 +47,7 @@ private:
         for (int k = 1; k < processes(); k++) link.send(word, k, text);
     }
 
-    // Broadcasts in pieces; the first byte says what a piece is.
+    // Broadcasts a piece of the inputs; its first byte says what the piece contains.
     void broadcast(char kind, const void *bytes, size_t length) {
         std::string text(1, kind);
         text.append(static_cast<const char *>(bytes), length);
@@ -178,7 +178,7 @@ private:
 
     // What process 0 sends.
 
-    // Sends the differences of identities, seven bits to a byte, as in binary proofs.
+    // Sends the differences between saved identities, seven bits to a byte, as in binary proofs.
     void say_saved() {
         std::string text;
         uint64_t last = 0;

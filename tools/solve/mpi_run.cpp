@@ -125,7 +125,7 @@ bool Peer::keeps(const Message &message) {
     if (word == GIFTS && message.head.process == 0) awaited--;
     bool is_kept = test_hooks.late_saved && word == CONTROL &&
         beginning<Control>(message).saved_round > LOAD(teams.shared->saved_round);
-    // one of process 0's gifts may be on its way; others keep sharing until the last one comes
+    // three of process 0's gifts: one may be on its way; others keep sharing until the last comes
     if (is_kept && kept.empty()) awaited = 3;
     return is_kept;
 }
@@ -135,7 +135,8 @@ bool Peer::is_due(const Message &message) const {
                                       : awaited <= 0;
 }
 
-// Process 0 collects when a round begins, and again only once its filters have the new identities.
+// Process 0 collects clauses when a round begins, and again only once its filters have the new
+// identities.
 bool Peer::holds_back() const {
     if (!test_hooks.late_saved || link.process != 0 || !exchange.has_begun()) return false;
     for (size_t k = 0; k < teams.size(); k++)

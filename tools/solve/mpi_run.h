@@ -21,7 +21,7 @@
 // to their processes.
 enum Word : uint32_t {
     HELLO,          // from the carrier: the processes, and how many engines each has
-    INPUT,          // from process 0 to all: a piece of what is read first; an empty one is the end
+    INPUT,          // from process 0 to all: a piece of the run's inputs; an empty piece ends them
     GIFTS,          // from each process to all: the clauses of an exchange
     LEAVE,          // from each process, the last message: it exchanges nothing more
     EXCHANGED,      // from the carrier: the nanoseconds that an exchange took
@@ -115,10 +115,10 @@ public:
     Traffic traffic = {};
 
     void open(Shared *all, const std::vector<uint32_t *> &boxes);
-    // the lines of the clauses before position `used` have been sent
+    // call once the lines of the clauses before position `used` have been sent
     void clear(int engine, uint64_t used) { cleared[size_t(engine)] = used; }
     std::string collect();              // what was given away since the last time
-    // it has collected in this round
+    // whether it has collected clauses in this round
     bool has_begun() const { return LOAD(shared->round) == round; }
     void place(Message &message);
 

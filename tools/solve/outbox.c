@@ -24,8 +24,8 @@ static uint32_t with_round(uint64_t identity, uint64_t round) {
 
 uint32_t gift_identity(const uint32_t *gift) { return LOAD(gift[1]) & ~OF_AN_ODD_ROUND; }
 
-// Puts a clause after those that are staged. False if there is no room, since it doesn't overwrite
-// what others may still read or ask for.
+// Puts a clause after those that are staged, but overwrites nothing that others may still read or
+// ask for: false if there is no room.
 bool outbox_put(const Shared *shared, uint32_t *outbox, int engine, uint64_t *staged,
                 uint64_t identity, const Literals *literals, uint32_t mark) {
     uint64_t size = shared->outbox_words, words = HEAD_OF_A_GIFT + literals->length,

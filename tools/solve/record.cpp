@@ -136,7 +136,7 @@ bool has_proof() {
     return report.find("\ns UNSATISFIABLE") != std::string::npos;
 }
 
-// How many rounds an unfinished run has saved: the list of rounds has the sizes of each.
+// How many rounds an unfinished run has saved: the list of rounds names a file of sizes for each.
 size_t rounds_to_resume() {
     int file = listed.count(LIST_OF_ROUNDS) == 0 ? -1 : open_in_record(LIST_OF_ROUNDS);
     const std::string list = file < 0 ? "" : text_of(file), ending = ".sizes\n";

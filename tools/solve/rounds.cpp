@@ -14,7 +14,7 @@ namespace {
 const uint64_t SHORT_STREAMS = UINT64_C(1) << 20;   // bytes in all streams before lrupd starts
 const uint64_t ALL_FED = UINT64_MAX / 2;     // more bytes than a stream has, so no filter waits
 const double CROWDED = 0.75;        // how much of the largest row the live clauses may take
-const int MOST_STARTS = 3;          // how many times lrupd is started without saving a new round
+const int MOST_STARTS = 3;          // how many times lrupd may start before it saves a new round
 
 std::string in_a_row_of(uint64_t words) { return " in a row of " + counted(8 * words, "byte"); }
 

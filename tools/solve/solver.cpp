@@ -83,7 +83,7 @@ private:
     }
 };
 
-// The last line of a solver's standard error that isn't empty; only the beginning of a long line.
+// The last nonempty line of a solver's standard error; only the beginning if the line is long.
 class LastLine {
 public:
     void read_from(int &file) {

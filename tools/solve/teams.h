@@ -52,7 +52,7 @@ public:
     void open(uint64_t round);          // before the formula is read; round: this run's first round
     void open_models();                 // after the formula is read
     void set_here(int first, int count);    // other engines are on other hosts
-    void start(bool is_first_alone);    // then the others start a moment later
+    void start(bool is_first_alone);    // if so, the others start a moment later
     void start_others();
     double next_start() const;          // when the others start; INFINITY: never
     void look();                        // to be called often while they solve

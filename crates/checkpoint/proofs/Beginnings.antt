@@ -1,5 +1,5 @@
--- A text of a formula has a token `0` for each clause. A prefix of a printed text has fewer tokens
--- `0` than its header requires.
+-- A text of a formula has a `0` token for each clause. If more than the last byte of a printed text
+-- is missing, the rest has fewer `0` tokens than its header requires.
 use Rattle.std.proofs.Common.{◌≡◌, ◌≢◌, ◌≤◌, ◌<◌, ◌+◌, ◌-◌, ◌^◌, ◌++◌, ◌⊎◌, ℕ, zero, suc, ℤ, pos, negsuc, List, [], ◌∷◌, length}
 use Rattle.std.proofs.Common.{length-append, map, min, get_or, true, false, not, cond, refl, sym, ap, subst, ◌∙◌, inl, inr, arith}
 use Rattle.std.specs.Prelude.{codes, flat_map, ◌==◌, filter}
@@ -148,7 +148,7 @@ one_line line end = elim (cases_Bool (is_comment line)) [
   ]
 ]
 
--- the number of tokens `0` in all lines
+-- the number of `0` tokens in all lines
 line_zeros : List ℕ → ℕ
 line_zeros bytes = zeros (flat_map (λ (line : List (List ℕ)). line) (token_lines bytes))
 
@@ -262,8 +262,8 @@ module _ (vars : ℕ) (few : vars ≤ max_variable) where
     | inr within ↦ omega (arith, note_part e.id place front within.between within.front_is within.some)
   ]
 
-  -- if more than the last byte of a text of n clauses is missing, the rest has fewer than n tokens
-  -- `0`
+  -- if more than the last byte of a text of n clauses is missing, the rest has fewer than n `0`
+  -- tokens
   entries_part : (place : ℕ) (es : List Entry) (front back : List ℕ) → AllByRecursion (AllByRecursion (IsLiteral vars)) (clauses_of es)
       → entries_text place es ≡ front ++ back → 1 < length back → line_zeros front < length es
   unfolding line_zeros zeros

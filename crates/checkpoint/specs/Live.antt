@@ -1,4 +1,4 @@
--- Fetches of one identity after the other from a clause map, and what is kept of the replies (this
+-- Fetches from a clause map, one identity after the other, and what is kept of the replies (this
 -- project's own).
 use Rattle.std.specs.Prelude.{◌+◌, ℕ, Bool, List, [], ◌∷◌, map, if◌then◌else◌}
 use Rattle.lrup_model.specs.Clause.{Clause}

@@ -41,8 +41,8 @@ impl Store {
         for other in others.iter_mut() {
             self.meet(pass, other);
         }
-        // For the proof only: the contract of `stream` says that the pass is fair; if there are no
-        // others, no other call says so.
+        // For the proof only: the contract of `stream` says that the pass is fair, which no other
+        // call says if `others` is empty.
         let _ = pass.stream();
     }
 }

@@ -100,14 +100,14 @@ module _ (its : Effects) (serial : Bool) (f : Cnf) (run_params : RunParamsValue)
   layout_start (faults.Layout fault) cause = (cause, refl)
   layout_start fault cause = absurd cause
 
-  -- another cause: the file wasn't created
+  -- why the streams weren't checked: the file wasn't created
   pub create_start : (fault : CommandFault) (after : its.State) → HasNoFault run_params.layout → IsNotCreated its before path fault after
       → Starts fault after
   create_start faults.NotCreated after none cause = (none, cause)
   create_start faults.Memory after none cause = inr (none, inl cause)
   create_start fault after none cause = absurd cause
 
-  -- another cause: the run had a fault, and the file was created and discarded
+  -- why the streams weren't checked: the run had a fault, and the file was created and discarded
   pub run_start : (fault : CommandFault) (after : its.State) → HasNoFault run_params.layout
       → IsRunCause its.reading serial f run_params readers fault → IsLeftUnused its before path after → Starts fault after
   run_start (faults.Layout fault) after none cause unused = absurd (none fault cause)

@@ -127,7 +127,7 @@ unsaved_is fault =
     (λ n f low is. absurd (low_unreported n low is))
     (λ is. absurd (not_of_report 7 (λ e. cc) (λ e. cc) (λ e. cc) (λ e. cc) is)) (λ unsaved is. (unsaved, refl)) fault
 
--- a round never lacks its report because of `Unwritten` or `NotSaved`
+-- if a round has no report, the cause is neither `Unwritten` nor `NotSaved`
 module _ (files : FilesView) (words : List Text) (after : files.its.State) where
   unassumed : (vars : ℕ) (before : files.its.State) (path : Option Text) → IsAssumeCause files vars before path faults.Unwritten after
       → ⊥

@@ -110,7 +110,8 @@ CheckpointLeftEmpty files words last status =
 
 -- The output.
 
--- a sink: what had been written to it by the start and by the end, and whether it failed by the end
+-- a sink: what had been written to it by the start and by the end, and whether it had failed by the
+-- end
 pub record SinkChange : Type 0 where
   pub before : Option (List ℕ)
   pub after : Option (List ℕ)
@@ -143,14 +144,15 @@ verdict_status Unsatisfiable = 0
 verdict_status UnsatisfiableUnder = 8
 verdict_status Unknown = 3
 
--- the status says that the report wasn't written; otherwise, that the checkpoint wasn't saved;
--- otherwise, which verdict the report has
+-- the status for a report that wasn't written; otherwise, for a checkpoint that wasn't saved;
+-- otherwise, for the report's verdict
 abbrev pub report_status : Bool → Option SaveFault → Verdict → ℕ
 report_status true unsaved verdict = status_of faults.Unwritten
 report_status false (Some fault) verdict = status_of (faults.NotSaved fault)
 report_status false None verdict = verdict_status verdict
 
--- the messages on standard error in these cases, for the round with this number
+-- the messages on standard error for the round with this number: one if the checkpoint wasn't
+-- saved, then one if the report wasn't written
 abbrev pub SaysOfRound : ℕ → Bool → Option SaveFault → SinkChange → Type 0
 SaysOfRound round true (Some fault) err =
     SinkTook err (round_error_text round (faults.NotSaved fault) ++ error_text faults.Unwritten)

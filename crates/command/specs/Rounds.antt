@@ -245,7 +245,7 @@ ProgramEnds files words after out err status =
 
 -- What rounds saved.
 
--- For the next round, the round saved in the folder a text of a formula over the same variables.
+-- The round saved to the folder, for the next round, a text of a formula over the same variables.
 -- The clauses of that formula all follow from `formula`.
 abbrev pub SavesEntailed : {its : Effects} {given : CommandLine} {cube : CubeValue} → Text → Cnf
     → Round its given cube → Type 0
@@ -261,7 +261,7 @@ SaveEntailed folder formula [] = Unit {0}
 SaveEntailed folder formula (round ∷ before) =
     SavesEntailed folder formula round × SaveEntailed folder formula before
 
--- The program ends with a report after some rounds. Each round before the last one saved, for the
+-- The program ends with a report after some rounds. The rounds before the last each saved, for the
 -- next round, a text of a formula over the same variables, whose clauses all follow from FORMULA.
 -- With status 3 or 8, the last round did so, too.
 pub record ReportsEntailed (files : FilesView) (words : List Text) (folder : Text)

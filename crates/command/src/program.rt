@@ -31,8 +31,8 @@ use std::time::Clock;
 ///    literals, if there is one.
 /// 2. It opens the streams. If they have a layout, and `--checkpoint` or `--rounds` was given, it
 ///    creates the file for the checkpoint or for the next round's formula.
-/// 3. It checks the streams. With `--watch`, watchers report the streams' progress, and slow
-///    openings.
+/// 3. It checks the streams. With `--watch`, watchers report the streams' progress, and openings
+///    that take long.
 /// 4. It saves the checkpoint, unless the verdict is 'unsatisfiable'. If that fails, `err` gets the
 ///    cause.
 /// 5. With `--rounds`, the checkpoint of a round is the next round's formula, and the folder holds
@@ -112,9 +112,9 @@ pub fn command<T: Threads + Wait + Sync, C: Clock + Sync, F: Machine, O: Sink, E
 }
 
 /// Checks the streams against a formula's text, as `command` does once it has read the formula's
-/// file. In this order: it parses the text and frees it, reads and parses the file of the assumed
-/// literals, opens the streams, creates the checkpoint's file if one is asked for, checks the
-/// streams, saves the checkpoint, checks further rounds if they are asked for, and writes the
+/// file. In this order, the call parses the text, frees it, reads and parses the file of the
+/// assumed literals, opens the streams, creates the checkpoint's file if one is asked for, checks
+/// the streams, saves the checkpoint, checks further rounds if they are asked for, and writes the
 /// report to `out`. The text may come from any source, so the clause `sound` mentions no file.
 pub fn check_formula<T: Threads + Wait + Sync, C: Clock + Sync, F: Machine, O: Sink, E: Sink>(
     threads: &T,

@@ -57,8 +57,8 @@ pub(crate) fn check_round<T: Threads + Wait + Sync, C: Clock + Sync, F: Machine>
     run_round(threads, clock, alloc, course, options, round, output, files)
 }
 
-/// Checks the streams of a round, which have a layout. Then it frees the round's formula, and ends
-/// the round. After a fault of the run it discards the round's file, if there is one.
+/// Checks the streams of a round, which have a layout; then frees the round's formula, and ends the
+/// round. After a fault of the run, discards the round's file, if there is one.
 fn run_round<T: Threads + Wait + Sync, C: Clock + Sync, F: Machine>(
     threads: &T,
     clock: &C,
@@ -110,9 +110,9 @@ fn run_round<T: Threads + Wait + Sync, C: Clock + Sync, F: Machine>(
     Ok(result)
 }
 
-/// Ends a round whose streams were checked: it closes the round's file, if there is one. It saves
-/// the clauses that the streams left, unless the verdict is 'unsatisfiable', and makes the next
-/// formula, if the run continues.
+/// Ends a round whose streams were checked. If it has a file, saves the clauses that the streams
+/// left, unless the verdict is 'unsatisfiable', and closes the file. Makes the next formula, if the
+/// run continues.
 fn close_round<C: Clock + Sync, F: Machine>(
     clock: &C,
     alloc: Global,

@@ -140,7 +140,7 @@ fn check_rounds<T: Threads + Wait + Sync, C: Clock + Sync, F: Machine>(
 }
 
 /// Parses the formula, reads the assumed literals, opens the streams of round 1, and checks the
-/// rounds. It blocks as long as an operation on a file does.
+/// rounds. The call blocks as long as an operation on a file does.
 pub(crate) fn begin_and_check<T: Threads + Wait + Sync, C: Clock + Sync, F: Machine>(
     threads: &T,
     clock: &C,

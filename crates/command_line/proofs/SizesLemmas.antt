@@ -32,7 +32,7 @@ number_splits text end number rest r split low is =
     split_after end text (decimal number) rest r split (omega arith) is.parts
     (not_in_digits own (decimal number) end (digits_decimal own number is.small) (λ range. omega (arith, range)))
 
--- a number in decimal begins as a number
+-- `BeginsAsNumber` holds for a number in decimal
 pub decimal_begins : (number : ℕ) → number < 2 ^ 64 → BeginsAsNumber (decimal number)
 decimal_begins number small = record {
   some = decimal_nonempty number small;
@@ -44,7 +44,7 @@ decimal_begins number small = record {
     alone zero small zero_first = ap length (decimal_digit 0 (omega arith))
     alone (suc n) small zero_first = absurd (omega (arith, first_decimal (suc n) (omega arith) small))
 
--- a text that begins as a number, and is read as one, is that number in decimal
+-- a text for which `BeginsAsNumber` holds, and that is read as a number, is that number in decimal
 pub decimal_read : (E : Type 0) (text : List ℕ) (number : ℕ) (r : Result ℕ E) → BeginsAsNumber text → ParsesUnsigned 64 10 text r
     → Some number ≡ result_ok r → (text ≡ decimal number) × (number < 2 ^ 64)
 decimal_read E text number (Err e) begins parses is = cc

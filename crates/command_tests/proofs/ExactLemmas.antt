@@ -98,7 +98,7 @@ module _ (files : FilesView) (words : List Text) where
   never_assumed vars before None why after cause = cause
   never_assumed vars before (Some path) why after cause = cause
 
-  -- a round never lacks its report because of a failed save
+  -- if a round has no report, the cause isn't a failed save
   never_unsaved : (number : ℕ) (why : SaveFault) (after : files.its.State) → IsCauseIn files words number (faults.NotSaved why) after
       → ⊥
   never_unsaved number why after (inl (one, cause)) = elim cause.2 [

@@ -1,6 +1,6 @@
-//! Files in memory whose contracts say exactly what each call does to them, and what follows for
-//! such files from the contract of `command`: what is at the path of a checkpoint after the
-//! statuses 0, 3, 8 and 9, and, after 3 and 8, which file a round kept last.
+//! Files in memory whose contracts say exactly what each call does to them. For such files, the
+//! contract of `command` implies what is at a checkpoint's path after the statuses 0, 3, 8 and 9,
+//! and, after 3 and 8, which file a round kept last.
 ghost use Rattle.std.specs.Prelude.{◌≡◌, ℕ, Some, option_map, string_bytes, true, false};
 ghost use Rattle.clap.specs.Walk.{texts};
 ghost use Rattle.command_tests.specs.ExactFiles.{ExactValue, text_at, text_or_none, FindsText, HasNoFile, RefusesOpening, IsCreated, RefusesNew, ClosesFile};

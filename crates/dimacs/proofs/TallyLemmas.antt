@@ -64,7 +64,7 @@ further_by_one n k l (pos (suc m)) zs =
 further_by_one n k l (negsuc m) zs =
     ⊎_elim (λ more. inl more) (λ same. inr (same.0, omega (arith, same.1))) (goes_on n (k + 1) (max l (k + 1)) zs).further
 
--- one more literal in a clause of k makes the largest number of literals exceed k
+-- one more literal in a clause of k literals makes the largest number of literals exceed k
 pub longer_by_one : (n k l : ℕ) (z : ℤ) (zs : List ℤ) → 0 < nat_abs z → k < (tally n k l (z ∷ zs)).longest
 longer_by_one n k l (pos zero) zs some = absurd (omega arith)
 longer_by_one n k l (pos (suc m)) zs some = omega (arith, (goes_on n (k + 1) (max l (k + 1)) zs).longer)

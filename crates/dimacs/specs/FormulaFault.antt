@@ -36,7 +36,7 @@ abbrev pub HasLargeHeader : List Line → Type 0
 HasLargeHeader [] = ⊥
 HasLargeHeader (header ∷ lines) = SaysTooMuch header.tokens
 
--- The tokens before this one have no fault, and spell the clauses of `closed`, and then `begun`
+-- The tokens before `token` have no fault; they spell the clauses of `closed`, and then `begun`
 -- without its 0.
 pub record OccursAt (token : Token) (vars count : ℕ) (tokens : List Token) (closed : List (List ℤ))
     (begun : List ℤ) : Type 0 where

@@ -61,7 +61,7 @@ pub record TokensSpell (vars count : ℕ) (tokens : List Token) (closed : List (
   pub begun_count : 0 < length begun → length closed < count
 
 -- The clause is the set of the literals, and has each literal once, in the order of their first
--- occurrences. The last field implies the other two, which are what textbooks say.
+-- occurrences. The last field implies the other two, which are the textbook definition.
 pub record IsSetOf (literals : List ℤ) (clause : Clause) : Type 0 where
   pub members : (l : ℤ) → Has clause l ↔ Has literals l
   pub each_once : EachOnce clause

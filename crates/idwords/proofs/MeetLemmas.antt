@@ -331,7 +331,7 @@ module _ {S : Type 0} where
   splits_thread f p id [] = splits_back f p id [] []
   splits_thread f p id (v ∷ vs) = splits_back f p id (v ∷ []) vs
 
-  -- if two thread states have met, so has the token that has both
+  -- if two thread states have met, `Joined` holds for the token that has both
   pub joined : (step : Step S) (v v' : ThreadState) (n : ℕ) (w w' : ThreadState) → SyncThreads v v' w w'
       → Joined step (v ∷ v' ∷ [], []) n (w ∷ w' ∷ [], [])
   joined step v v' n w w' met u u' same =

@@ -1,5 +1,5 @@
--- Lemmas about places in the row: a stream writes only into words that no other stream, clause of
--- the formula or identity uses; and about steps on literals.
+-- Lemmas about where a stream writes in the row (only into words that no other stream, clause of
+-- the formula or identity uses), and about steps on literals.
 use Rattle.std.proofs.Common.{◌≡◌, ◌≢◌, ℕ, ℤ, ◌+◌, ◌-◌, ◌*◌, ◌/◌, ◌%◌, ◌<◌, ◌≤◌, ◌⊎◌, List, [], ◌∷◌, ◌++◌, Option, length, set, slice_index}
 use Rattle.std.proofs.Common.{slice_set, refl, sym, ap, subst, ◌∙◌, inl, inr, arith, length-append, length-set, get_or-set_same}
 use Rattle.std.proofs.Common.{get_or-set_other}

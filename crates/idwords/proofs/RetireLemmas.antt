@@ -26,7 +26,7 @@ use Rattle.idwords.proofs.LookLemmas.{IsPlain, plain_step}
 use Rattle.idwords.proofs.OwnLemmas.{live_word, other_word, retired_word, own_slot, own_identity, own_word, count-write, first-write}
 use Rattle.idwords.proofs.OwnLemmas.{here-write, slots-write, texts-write, drafts-write}
 
--- a step that loads an own identity's word does what `Finds` says
+-- a step that loads the word of one of the stream's own identities does what `Finds` says
 pub finds : (v : ThreadState) (seat id : ℕ) → Owns v.view.caller.layout (thread_stream v) id
     → OwnStep v seat id (λ n. n) (λ n w. Finds id v n w)
 finds v seat id owns more words views kept here small =
@@ -72,7 +72,8 @@ finds v seat id owns more words views kept here small =
           )
     ]
 
--- a compare-exchange that expects an own identity's live word does what `Retires` says
+-- a compare-exchange that expects the live word of one of the stream's own identities does what
+-- `Retires` says
 pub retires : (v : ThreadState) (seat id old : ℕ) → Owns v.view.caller.layout (thread_stream v) id
     → old ≡ word_of (state v.view.caller.formula v.view.mine id) (stored_in v.view.spelt id) → word_state old ≡ 1
     → OwnStep v seat id (λ n. either (eqb n old) (old + 1) n) (λ n w. Retires id v w)

@@ -16,8 +16,8 @@ pub record SeatValue : Type 0 where
   pub draft : Clause
 
 -- What one stream knows: its view, its top, and its draft, i.e. the literals stored from the top
--- on. A seat has one thread state; while two seats meet, one of them has both, and, at the opening,
--- the first seat has all of them.
+-- on. A seat has one thread state; but while two seats meet, one of them has both seats' thread
+-- states, and at the opening, the first seat has those of all seats.
 pub record ThreadState : Type 0 where
   pub view : View
   pub top : ℕ

@@ -10,7 +10,7 @@ use crate::word::{live_word, pair_word};
 use lrup_model::{Formula, Layout, Lit};
 use std::alloc::{AllocError, Global};
 
-/// Makes all words of the row, 8 bytes each: word 0, the words of identities, the words of
+/// Makes all words of the row, 8 bytes each: word 0, the words of identities, and the words of
 /// literals. Reads the formula twice.
 pub(crate) fn all_words(
     alloc: Global,

@@ -1,8 +1,8 @@
 //! Words of the row. The word of identity `id` is word `id` of the row: bits 0 and 1 are its state,
-//! bits 2 to 21 the number of literals of the clause, bits 22 to 63 the clause's start, i.e. the
-//! index in the row of the word with its first two literals. A word of literals has the code of one
-//! literal in bits 0 to 31, and in bits 32 to 63 the code of the next one, or 0. A code is twice
-//! the variable, plus one if the literal is negative.
+//! bits 2 to 21 the number of literals of the clause, and bits 22 to 63 the clause's start, i.e.
+//! the index in the row of the word with its first two literals. A word of literals has the code of
+//! one literal in bits 0 to 31, and in bits 32 to 63 the code of the next one, or 0. A code is
+//! twice the variable, plus one if the literal is negative.
 ghost use Rattle.std.specs.Prelude.{◌≡◌, ◌^◌, ◌<◌, IfSome};
 ghost use Rattle.lrup_model.specs.Literal.{max_variable, code_of, IsCode};
 ghost use Rattle.idwords.specs.internal.RowWords.{identity_word, literal_word};

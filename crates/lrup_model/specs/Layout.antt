@@ -65,7 +65,7 @@ pub record Fits (layout : LayoutValue) (formula : Cnf) : Type 0 where
 abbrev pub IsIdentity : LayoutValue → ℕ → Type 0
 IsIdentity layout id = (0 < id) × (id ≤ last_identity layout)
 
--- the streams, numbered from 1, own in turn the identities after the formula's
+-- the identities after the formula's belong to the streams, numbered from 1, in turn
 abbrev pub owner : LayoutValue → ℕ → Owner
 owner layout id =
     if nat_eq id 0 then owners.Outside

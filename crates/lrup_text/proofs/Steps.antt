@@ -262,8 +262,8 @@ literal_blocks signed imports k n b never ne limits lifted rest h = no_digits li
 pub list_blocks : (signed deletes : Bool) (b : ℕ) → b ≢ space → Blocks signed (BeforeList deletes) b
 list_blocks signed deletes b ne limits lifted rest h = ne (list_to_space limits deletes 0 b rest h)
 
--- before an item, nothing may follow a byte that isn't 0, a digit 1 to 9, or a sign where hints may
--- be signed
+-- at the spot before an item, nothing may follow a byte other than 0, a digit 1 to 9 or, if hints
+-- may be signed, a sign
 pub item_blocks : (signed deletes : Bool) (j b : ℕ) → b ≢ zero_digit → NoFirst b → (b ≡ minus → deletes ≡ false → signed ≡ true → ⊥)
     → Blocks signed (BeforeItem deletes j) b
 item_blocks signed deletes j b not_zero never not_minus limits lifted rest h = elim (item_to limits deletes j b rest h) [
@@ -278,7 +278,7 @@ number_blocks signed deletes k j b never ne limits lifted rest h = no_digits lim
 pub end_blocks : (signed : Bool) (b : ℕ) → b ≢ line_feed → Blocks signed AtEnd b
 end_blocks signed b ne limits lifted rest h = ne (rests.same_head h)
 
--- Bytes that only the limits of a stream refuse.
+-- Bytes that are refused only because of a stream's limits.
 
 wider : Bool → Limits
 wider signed = record { digits = 19; literals = 65536; identities = 65537; signed = signed }

@@ -81,8 +81,8 @@ abbrev pub TextHasNoFault : Type 0
 TextHasNoFault = (literals : List ℤ) (bytes : List ℕ) (fault : CubeFault)
     → IsLiteralsText literals bytes → ¬ IsTextFault IsCubeLine bytes fault
 
--- if variables have at most 18 digits, bytes are the text of a cube exactly if they are the text of
--- literals over the variables, and the cube is the set of these literals
+-- if variables have at most 18 digits, the texts of a cube are exactly the texts of the lists of
+-- literals over the variables whose set is the cube
 abbrev pub CubeTextIsRead : Type 0
 CubeTextIsRead = (vars : ℕ) (bytes : List ℕ) (cube : CubeValue) → vars < 10 ^ 18
     → IsCubeText vars bytes cube

@@ -28,7 +28,7 @@ OneFirstLine = (line other : StreamLine) (more after : List ℕ) → IsWithinLim
     → IsWithinLimits other
     → line_text line ++ more ≡ line_text other ++ after → (line ≡ other) × (more ≡ after)
 
--- the grammar accepts bytes within a stream's limits exactly if they are the text of a line
+-- with a stream's limits, the grammar accepts bytes exactly if they are the text of a line
 abbrev pub TextsAreLines : Type 0
 TextsAreLines = (bytes : List ℕ) → IsLine standard bytes
     ↔ ((line : StreamLine) × LineText line bytes)
@@ -67,8 +67,8 @@ EmptyPending = IsPending []
 abbrev pub EmptyCut : Type 0
 EmptyCut = IsCut [] [] (Ok [])
 
--- However a stream is divided into pieces, the calls give the lines into which the bytes that they
--- used are cut.
+-- However a stream is divided into pieces, the calls use some bytes, and give the lines into which
+-- these bytes are cut.
 abbrev pub CallsCut : Type 0
 CallsCut = (stream : List ℕ) (lines : List StreamLine) (old new : ReaderState) (calls : List Call)
     → IsCut stream lines old → AreCalls old calls new

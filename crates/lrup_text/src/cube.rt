@@ -22,7 +22,7 @@ pub enum CubeFault {
     #[error("spelling")]
     Spelling,
     /// Only a limit is exceeded: with longer numbers or more literals allowed, the text up to its
-    /// first wrong byte could still become such a line.
+    /// first wrong byte could still become the text of a cube.
     #[error("too long")]
     TooLong,
     /// The magnitude of a literal is above the number of variables.

@@ -1,6 +1,6 @@
 //! `lrupd [--tries N] [--lines N] [--room N] [--assume FILE] [--checkpoint FILE | --rounds DIR]
 //! [--serial] [--watch] FORMULA STREAM...` checks the proofs of SAT solvers that share their
-//! clauses, while the solvers write them.
+//! clauses, while the solvers write these proofs.
 #![tactic(auto)]
 
 use command::{Files, Machine, OpenFault, command_with_arguments};

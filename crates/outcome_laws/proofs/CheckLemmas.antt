@@ -210,7 +210,7 @@ module _ {R : Type 0} (reading : SourceView R) (c : Check reading) where
       (contents.0, entry_at t observation path.0 (flat_map line_text (lines_by t steps) ++ contents.0) at path.1 contents.1)
 
   -- If a stream adds the empty clause in a valid order, the verdict is 'unsatisfiable', or the
-  -- stream was cut off in its lines, or lacks another stream's clause.
+  -- stream, in one of its lines, was cut off or lacks another stream's clause.
   pub order_says : TogetherBegins → ValidEmpty → IsCnf c.formula → (s : ℕ) (set : ℕ → Bool) (steps : List Step)
       → IsValidOrder c.formula c.run_params.layout steps → AllByRecursion (λ step. IsTrue (set step.stream)) steps
       → BeginSo set steps → Any AddsEmpty (lines_by s steps)

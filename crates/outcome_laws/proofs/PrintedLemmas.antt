@@ -38,7 +38,7 @@ use Rattle.outcome_laws.proofs.StreamLemmas.{Cut}
 abbrev IsFlat : ℕ → List ℕ → Type 0
 IsFlat mark bytes = AllByRecursion (λ b. b ≢ mark) bytes
 
--- if two lists are equal, so is what comes after the first mark in them
+-- if two lists are equal, so are the parts after the first mark in each
 cut_alike : (mark : ℕ) (front other rest more : List ℕ) → IsFlat mark front → IsFlat mark other
     → front ++ mark ∷ rest ≡ other ++ mark ∷ more → rest ≡ more
 cut_alike mark [] [] rest more flat plain same = cc

@@ -46,7 +46,7 @@ use Rattle.outcome_laws.proofs.StreamLemmas.{stopped_is_open}
 
 -- Faults
 
--- if a later round is provided for, its fault is the machine's
+-- if a later round is provided for, any fault in it is the machine's
 module _ (its : Effects) (given : CommandLine) (cube : CubeValue) (folder : Text) (number : ℕ) (old : Sizes) (formula : Cnf)
     (before after : its.State) where
   abbrev Read : Sizes → its.State → Type 0

@@ -62,7 +62,7 @@ EndsSo Mode Before Why = (R : Type 0) (reading : SourceView R) (c : Check readin
     → Before c.formula c.run_params.layout c.contents c.paths
     → HaveEnded c.reports ⊎ IsLost Why c.run_params c.reports
 
--- a stream, and how many of its first lines
+-- a stream's number, and how many of its first lines are meant
 abbrev pub Lines : Type 0
 Lines = ℕ × ℕ
 
@@ -199,8 +199,8 @@ ends_round_robin round_robin R reading c on_one cnf valid = elim (some_cut c.rep
       (valid_round_robin reading c cnf round_robin on_one valid.0.0 valid.0.1 valid.1 valid.0.2 fine s report says)))
 ]
 
--- a stream that was cut off, and the number of the line in which it was; or zeros, if no stream was
--- cut off
+-- the numbers of a stream that was cut off and of the line in which that happened; or zeros, if no
+-- stream was cut off
 abbrev cut_lines : (reports : List Report) → SomeCut reports ⊎ NoneExcused (λ s. true) CutOff reports → Lines
 cut_lines reports (inl cut) = (cut.0, cut.3.0)
 cut_lines reports (inr fine) = (0, 0)

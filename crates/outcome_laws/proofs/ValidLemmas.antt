@@ -73,7 +73,7 @@ module _ (one_formula : OneFormula) (no_fault : NoFormulaFault) (alike : SameWor
       let same = text_of (files.contents path) valid.0 cause.1.0 valid.1 cause.1.1.known in
       valid.2 fault cause.0 (subst (λ (b : List ℕ). IsCubeFault vars b fault) (sym same) cause.1.2)
 
-  -- if no file of assumed literals causes this fault, no optional path to such a file does, either
+  -- if no file of assumed literals causes this fault, an optional one doesn't, either
   some_assumed : (fault : CommandFault) (vars : ℕ) (before : files.its.State) (path : Option Text) (after : files.its.State)
       → ((at : Text) → IsAssumeCause files vars before (Some at) fault after → ⊥) → ¬ IsAssumeCause files vars before path fault after
   some_assumed fault vars before None after none cause = cause

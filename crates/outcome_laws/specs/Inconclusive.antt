@@ -15,9 +15,9 @@ use Rattle.command.specs.Commands.{SinkChange}
 use Rattle.run_files.specs.Asked.{Text, assumed_at, created_path, run_params_by}
 use Rattle.command.specs.Rounds.{EndsWithFault, EndsWithReport, HaveEnded, Round}
 
--- Some stream of the round was stopped, for a reason that the stream's parameters excuse. In a
--- round before the last, this may be any stream, in any line; in the last one, it is stream s, in
--- one of its first `count` lines.
+-- Some stream of the round was stopped, for a reason that `Why` excuses, given the stream's
+-- parameters. In a round before the last, this may be any stream, in any line; in the last one, it
+-- is stream s, in one of its first `count` lines.
 pub record HasStopped {its : Effects} {given : CommandLine} {cube : CubeValue}
     (Why : StreamParams → Excuse) (s count last : ℕ) (round : Round its given cube) : Type 0 where
   pub stream : ℕ
@@ -70,8 +70,8 @@ pub data InconclusiveBecause (files : FilesView) (words : List Text)
       ⊎ ((written : ℕ) × FallsShort Why s count last ends.last written)) (is : status ≡ 7)
       → InconclusiveBecause files words Why s count last after out err status
   -- there is no report, because of a fault of the machine: a file wasn't opened or created, or a
-  -- read of the formula, of the assumed literals or of sizes failed (5); memory ran out, a thread
-  -- wasn't started, or a ring lost the end of a stream (6)
+  -- read of the formula, of the assumed literals or of sizes failed (5); or memory ran out, a
+  -- thread wasn't started, or a ring lost the end of a stream (6)
   no_report :
       (ends : EndsWithFault files words after out err status) (few : ends.number ≤ last)
       (is : (status ≡ 5) ⊎ (status ≡ 6))

@@ -60,11 +60,12 @@ SameWordsAskAlike = (words : List Text) (given other : CommandLine) → IsComman
     → (other.tries ≡ given.tries) × (sizes_of other ≡ sizes_of given)
     × (other.streams ≡ given.streams) × (other.formula.now ≡ given.formula.now)
 
--- Two runs of the program have the same tries and sizes, the files of their formulas are known to
--- have the same bytes, and so are the files of stream s. If this stream cites only its own clauses
--- and the formula's, it has the same report line in round 1 of both runs, unless one of its reports
--- says that memory ran out or a read failed. The other streams' files, the assumed literals and the
--- use of threads make no difference. A run without rounds consists of round 1.
+-- Suppose that two runs of the program have the same tries and sizes, and that each of two files,
+-- the formula's and that of stream s, is known to have the same bytes in both runs. If this stream
+-- cites only its own clauses and the formula's, it has the same report line in round 1 of both
+-- runs, unless one of its reports says that memory ran out or a read failed. The other streams'
+-- files, the assumed literals and the use of threads make no difference. A run without rounds
+-- consists of round 1.
 abbrev pub OutcomesAgree : FilesView → FilesView → Type 0
 OutcomesAgree files others =
     (given other_given : CommandLine) (cube other_cube : CubeValue)

@@ -10,7 +10,7 @@ use Rattle.run_files.specs.Asked.{Text, sizes_of}
 use Rattle.command.specs.Rounds.{Round, WereRounds}
 
 -- Two command lines ask for the same round 1 on one thread: they have the same tries and sizes, and
--- the files of their formulas and streams are known to have the same bytes.
+-- each of the files, the formula's and the streams', is known to have the same bytes for both.
 pub record AskForSameTurns (files : FilesView) (others : FilesView)
     (given other : CommandLine) : Type 0 where
   pub serial : given.serial ≡ true

@@ -9,13 +9,13 @@ use Rattle.command.specs.Rounds.{ProgramEnds}
 use Rattle.outcome_laws.specs.Inconclusive.{InconclusiveBecause}
 use Rattle.outcome_laws.specs.Valid.{AreValidAlone, AreValidRoundRobin, AreValidInOrder, AskForValidRounds, IsRefutedAlone, IsRefutedRoundRobin, IsRefutedInOrder}
 
--- If each stream of each round before the last is valid and cites only its own clauses and the
--- formula's, and stream s of the last round begins with a valid refutation, the program ends with
--- status 0; with 7, because the report couldn't be written; with 5 or 6, because of a fault of the
--- machine; with 9, because a checkpoint or the next round's formula couldn't be saved; with 8, and
--- then there are assumed literals, and the report says 'unsatisfiable under assumptions'; or with
--- 3. With 3, and in the last round also with 8 and 9, the report says that memory ran out or a read
--- failed, in the refutation's lines or in some stream of an earlier round.
+-- Suppose that each stream of each round before the last is valid and cites only its own clauses
+-- and the formula's, and that stream s of the last round begins with a valid refutation. Then the
+-- program ends with status 0; with 7, because the report couldn't be written; with 5 or 6, because
+-- of a fault of the machine; with 9, because a checkpoint or the next round's formula couldn't be
+-- saved; with 8, and then there are assumed literals, and the report says 'unsatisfiable under
+-- assumptions'; or with 3. With 3, and in the last round also with 8 and 9, the report says that
+-- memory ran out or a read failed, in the refutation's lines or in some stream of an earlier round.
 abbrev pub ValidRoundsSay : FilesView → (last : ℕ) → Type 0
 ValidRoundsSay files last = (words : List Text) (s count : ℕ) (after : files.its.State)
     (out err : SinkChange) (status : ℕ)
@@ -24,10 +24,11 @@ ValidRoundsSay files last = (words : List Text) (s count : ℕ) (after : files.i
     → (status ≡ 0)
     ⊎ InconclusiveBecause files words (λ params. CutOff) s count last after out err status
 
--- If, in each round before the last, lines of all streams have a valid order, and, in the last one,
--- lines of a set of streams have a valid order in which stream s adds the empty clause, the program
--- ends as in `ValidRoundsSay`, with one more reason for a stream to stop: a line in such an order
--- cites another stream's clause that wasn't there yet or was no longer there.
+-- Suppose that in each round before the last one, lines of all streams have a valid order, and that
+-- in the last round, lines of some streams have a valid order in which stream s adds the empty
+-- clause. Then the program ends as in `ValidRoundsSay`, with one more reason for a stream to stop:
+-- a line in such an order cites another stream's clause that wasn't there yet or was no longer
+-- there.
 abbrev pub ValidOrdersSay : FilesView → (last : ℕ) → Type 0
 ValidOrdersSay files last = (words : List Text) (s count : ℕ) (after : files.its.State)
     (out err : SinkChange) (status : ℕ)
@@ -37,8 +38,8 @@ ValidOrdersSay files last = (words : List Text) (s count : ℕ) (after : files.i
 
 -- Suppose that the words ask for one thread, that in each round lines of all streams have a valid
 -- order that takes the streams in turn, and that in the last round some line of stream s adds the
--- empty clause. Then the program ends as if each stream were valid on its own; but any stream may
--- be the one in which memory ran out or a read failed, in the last round as well.
+-- empty clause. Then the program ends as if each stream were valid on its own, but in the last
+-- round, too, memory may have run out or a read may have failed in any stream.
 abbrev pub ValidTurnsSay : FilesView → (last : ℕ) → Type 0
 ValidTurnsSay files last = (words : List Text) (s : ℕ) (after : files.its.State)
     (out err : SinkChange) (status : ℕ)

@@ -47,9 +47,10 @@ pub fn one_round_alone<F: Machine>(files: &F)
 {}
 
 /// Take two runs of the program with the same tries and sizes, and a stream that cites only its own
-/// clauses and the formula's. If the files of the formula and of the stream are known to have the
-/// same bytes before both runs, the stream has the same line in round 1 of both, unless a report of
-/// the stream says that memory ran out or a read failed. A run without rounds consists of round 1.
+/// clauses and the formula's. If each of the two files, the formula's and the stream's, is known to
+/// have the same bytes before both runs, the stream has the same line in round 1 of both, unless a
+/// report of the stream says that memory ran out or a read failed. A run without rounds consists of
+/// round 1.
 pub fn outcomes_agree<F: Machine, G: Machine>(files: &F, others: &G)
     ensures { OutcomesAgree (⟦<F as Viewed>⟧.view files.now) (⟦<G as Viewed>⟧.view others.now) }
 {
@@ -68,9 +69,9 @@ pub fn status_0_has_a_command_line<F: Machine>(files: &F)
 }
 
 /// Take two runs of the program on one thread with the same tries, sizes and assumed literals. If
-/// the files of the formula and of each stream are known to have the same bytes before both runs,
-/// the reports and the verdicts of round 1 are the same, unless some report says that memory ran
-/// out or a read failed. A run without rounds consists of round 1.
+/// each of the files, the formula's and the streams', is known to have the same bytes before both
+/// runs, the reports and the verdicts of round 1 are the same, unless some report says that memory
+/// ran out or a read failed. A run without rounds consists of round 1.
 pub fn serial_outcomes_agree<F: Machine, G: Machine>(files: &F, others: &G)
     ensures { SerialOutcomesAgree (⟦<F as Viewed>⟧.view files.now)
         (⟦<G as Viewed>⟧.view others.now) }
@@ -132,10 +133,11 @@ pub fn valid_turn_rounds_say<F: Machine>(files: &F)
     valid_empty();
 }
 
-/// If a stream of round 1 (without `--rounds`, of the whole run) is a valid refutation, the program
-/// ends with status 0; with 7, because the report couldn't be written; with 5 or 6, for a fault of
-/// the machine; with 3 or 8, because memory ran out or a read failed in the refutation's lines; or
-/// with 9 instead of 3 or 8, because a checkpoint or the formula of round 2 couldn't be saved.
+/// Suppose that a stream of round 1 (without `--rounds`, of the whole run) is a valid refutation.
+/// Then the program ends with status 0; with 7, because the report couldn't be written; with 5 or
+/// 6, for a fault of the machine; with 3 or 8, because memory ran out or a read failed in the
+/// refutation's lines; or with 9 instead of 3 or 8, because a checkpoint or the formula of round 2
+/// couldn't be saved.
 pub fn valid_refutation_says<F: Machine>(files: &F)
     ensures { ValidRoundsSay (⟦<F as Viewed>⟧.view files.now) 1 }
 {
@@ -152,30 +154,31 @@ pub fn no_bad_line_shown<F: Machine>(files: &F)
     valid_refutation_says(files);
 }
 
-/// If in round 1 lines of streams have a valid order, and one of the lines adds the empty clause,
-/// the program ends as `valid_refutation_says` says; or it ends with 3 or 8, or 9 in their place,
-/// because one of these lines cites another stream's clause that wasn't there yet or was no longer
-/// there.
+/// Suppose that in round 1 lines of streams have a valid order, and that one of the lines adds the
+/// empty clause. Then the program ends as `valid_refutation_says` says; or it ends with 3 or 8, or
+/// 9 in their place, because one of these lines cites another stream's clause that wasn't there yet
+/// or was no longer there.
 pub fn valid_order_says<F: Machine>(files: &F)
     ensures { ValidOrdersSay (⟦<F as Viewed>⟧.view files.now) 1 }
 {
     valid_orders_say(files);
 }
 
-/// If in round 1, on one thread, lines of all streams have a valid order that takes the streams in
-/// turn, and one of the lines adds the empty clause, the program ends with status 0; with 7,
-/// because the report couldn't be written; with 5 or 6, for a fault of the machine; or with 3 or 8,
-/// or 9 in their place, because memory ran out in some stream or a read of some stream failed.
+/// Suppose that in round 1, on one thread, lines of all streams have a valid order that takes the
+/// streams in turn, and that one of the lines adds the empty clause. Then the program ends with
+/// status 0; with 7, because the report couldn't be written; with 5 or 6, for a fault of the
+/// machine; or with 3 or 8, or 9 in their place, because memory ran out in some stream or a read of
+/// some stream failed.
 pub fn valid_turns_say<F: Machine>(files: &F)
     ensures { ValidTurnsSay (⟦<F as Viewed>⟧.view files.now) 1 }
 {
     valid_turn_rounds_say(files);
 }
 
-/// If several runs of the program, each of one round or more, follow one another, each starting
-/// from the checkpoint that the last round of the previous run saved, and the last run ends with
-/// status 0, then the first run read a text of a formula that no assignment satisfies. This follows
-/// from the clause `ends` of `command`.
+/// Suppose that several runs of the program, each of one round or more, follow one another: each
+/// run after the first starts from the checkpoint that the last round of the previous run saved. If
+/// the last run ends with status 0, the first run read a text of a formula that no assignment
+/// satisfies. This follows from the clause `ends` of `command`.
 pub fn outcomes_refute<F: Machine>(_files: &F)
     ensures { OutcomesRefute ⟦<F as Viewed>⟧.view }
 {

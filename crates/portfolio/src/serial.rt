@@ -46,7 +46,7 @@ pub fn run_serial<W: Wait, R: Source + Drop, G: Gate + Drop>(
         × (result ≢ Err (RunFault.Ring stream)) }
     // There is a run on one thread (`true`) with this outcome, over the readers' bytes and what
     // their reads gave. Its history is the history of an order of lines that takes one line of each
-    // stream in turn. The map has what the history leaves. The run's groups of streams are
+    // stream in turn. The map is as the history leaves it. The run's groups of streams are
     // isolated.
     ensures ordered { let run_params = run_params_of options cube.now formula.now
         (length readers.items) in

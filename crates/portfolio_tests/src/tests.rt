@@ -139,8 +139,8 @@ fn defaults() -> Options
     options(1_000, 65_536, 1_048_576)
 }
 
-/// A reader for each stream, whose reads give at most `most` bytes. For the first streams,
-/// `fails_at` has the number of the read that fails, or 0 if no read fails.
+/// A reader for each stream, whose reads give at most `most` bytes. `fails_at` lists, for the first
+/// streams, the number of the read that fails, or 0 if no read fails.
 fn failing_readers<'a>(
     alloc: Global,
     streams: &[&'a str],

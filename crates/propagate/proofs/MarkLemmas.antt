@@ -116,7 +116,7 @@ cleared-at [] i = refl
 cleared-at (x ∷ marks) zero = refl
 cleared-at (x ∷ marks) (suc i) = cleared-at marks i
 
--- a mark that is set after some mark has been cleared was set before, too
+-- if a mark is still set after some mark has been cleared, it was set before, too
 pub marked_before : (marks : List Bool) (i k : ℕ) → get_or (set marks i false) k false ≡ true → get_or marks k false ≡ true
 marked_before [] i k h = h
 marked_before (x ∷ marks) zero zero h = absurd (false≢true h)

@@ -125,8 +125,8 @@ HasNoFault layout = (fault : LayoutFault) → IsFault layout fault → ⊥
 
 -- why the streams of a formula, opened as these readers, weren't checked: they have no layout; or
 -- they have one, but the file at the path, if one is given, wasn't created; or it was, but a thread
--- wasn't started, or a ring lost the end of a stream that was read to its end, after the earlier
--- streams were judged; or memory ran out
+-- wasn't started, or a ring lost the end of a stream, after that stream had been read and the
+-- earlier ones judged; or memory ran out
 abbrev pub IsStartCause : (its : Effects) → Bool → Cnf → RunParamsValue → List its.Reader
     → its.State
     → Option Text → CommandFault → its.State → Type 0

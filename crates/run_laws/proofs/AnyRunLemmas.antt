@@ -304,8 +304,8 @@ module _ (first : OneFirstLine) (refused : RefusedStays) (cited : CitedFetched) 
     found_theirs s (events.publish u id d result ∷ es) there = (tt, found_theirs s es there.1)
     found_theirs s (events.retire u id result ∷ es) there = (tt, found_theirs s es there.1)
 
-    -- the run's good lines begin with the stream's lines, or the stream ended in these lines and
-    -- isn't to blame
+    -- the run's good lines begin with the stream's lines, or the stream was stopped in these lines
+    -- and isn't to blame
     goes_on : (s : ℕ) (member : IsTrue (inside run_params.layout set s)) (w : Part s) (more : List ℕ) (o : Other s w more)
         → w.judges.rest ≡ []
         → GoesOn w.judges.lines o.read.reads.judges.lines ⊎ IsBlameless (stream_params run_params s) Mine (length w.judges.lines) o.report
@@ -333,7 +333,8 @@ module _ (first : OneFirstLine) (refused : RefusedStays) (cited : CitedFetched) 
         (omega arith) w.judges.good j.good j.ends w.judges.fits j.fits
         o.texts o.read.reads.ended ours also
 
-    -- the other report says at least as much, or its stream ended in these lines and isn't to blame
+    -- the other report says at least as much, or its stream was stopped in these lines and isn't to
+    -- blame
     pub record AgreesOn (s : ℕ) (report other : Report) : Type 0 where
       pub stream : Stream
       pub at : IsOfStream streams s stream

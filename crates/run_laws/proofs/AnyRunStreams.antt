@@ -313,7 +313,7 @@ module _ (first : OneFirstLine) (refused : RefusedStays) (c : StreamParams) (Min
       (omega (arith, below)) limits is none pending says)
 
   -- if a stream's bytes begin with lines that are good in the first history, its good lines in the
-  -- second begin with these lines, or it ends in these lines and isn't to blame
+  -- second begin with these lines, or it is stopped in these lines and isn't to blame
   pub lines_go_on : (before lines others : List StreamLine) (fs front back : List History) (m : State) (rest left more : List ℕ)
       (end : StreamEnd)
       (count : ℕ) (report : Report) → length before + length lines ≤ count

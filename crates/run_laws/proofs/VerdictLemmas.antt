@@ -99,8 +99,8 @@ module _ (c : StreamParams) (passes : Event → Bool) (adds : ℕ × Clause → 
   quiet_retires [] = tt
   quiet_retires (id ∷ ids) = (shows.retires_none id, quiet_retires ids)
 
-  -- a good line publishes an event that `passes` accepts if and only if it adds a clause that
-  -- `adds` accepts
+  -- a good line has an event that `passes` accepts if and only if it adds a clause that `adds`
+  -- accepts
   good_line : (st : StreamContext) (line : StreamLine) (es : History) → JudgesLine c st line es Good
       → list_any passes es ≡ list_any adds (additions_of (line ∷ []))
   good_line st (Addition id lits hints) es judged =

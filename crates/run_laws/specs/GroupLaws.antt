@@ -18,8 +18,8 @@ use Rattle.run_laws.specs.Groups.{one, AreClosedReaders, NoneExcused, IsGroup, A
 
 -- Closed sets
 
--- if no line in some bytes cites an identity of a stream outside a set, no line in a prefix of the
--- bytes does
+-- if no line in the bytes cites an identity of a stream outside a set, neither does any line in a
+-- prefix of the bytes
 abbrev pub BeginningsWithin : Type 0
 BeginningsWithin = (p : LayoutValue) (set : ℕ → Bool) (bytes more : List ℕ)
     → CiteWithin p set (bytes ++ more) → CiteWithin p set bytes
@@ -95,8 +95,8 @@ MatchIsReading = (observed : List InputObservation) (streams : List Stream) (s :
     → observation.entry ≡ Some whole → observation.has_failed ≡ false
     → IsReadingOf whole stream_ends.Ended stream
 
--- if a reader failed, its stream is a reading of the bytes before those that the reader has left
--- after the failure, with a failed read as its end
+-- if a reader failed, its stream is a reading of the bytes that the reader had at the start,
+-- without those left after the failure, with a failed read as its end
 abbrev pub FailedIsReading : Type 0
 FailedIsReading = (observed : List InputObservation) (streams : List Stream) (s : ℕ)
     (observation : InputObservation)

@@ -34,7 +34,7 @@ abbrev pub IsRun : Cnf → RunParamsValue → List InputObservation → List Rep
 IsRun formula run_params observed reports =
     IsRunOfFirst run_params.layout.streams formula run_params observed reports
 
--- the set of only this stream
+-- the set that contains only this stream
 abbrev pub one : ℕ → ℕ → Bool
 one s = λ t. t == s
 

@@ -24,7 +24,7 @@ use Rattle.run_laws.specs.Serializable.{ComeToVerdict, IsSerializable}
 
 -- The lines of a stream
 
--- the blocks by which a stream is judged have the form of lines
+-- each block by which a stream is judged has the form of a line's events
 abbrev pub JudgedBlocks : Type 0
 JudgedBlocks = (c : StreamParams) (bytes : List ℕ) (end : StreamEnd) (blocks : List History)
     (report : Report)
@@ -114,7 +114,7 @@ SharedStays =
     → FoundStays f run_params.layout set h
 
 -- if the lines of some bytes cite or delete an identity, so do the lines of all bytes that begin
--- with these
+-- with those bytes
 abbrev pub BeginningsCite : Type 0
 BeginningsCite = (bytes more : List ℕ) (id : ℕ)
     → (Cites bytes id → Cites (bytes ++ more) id)

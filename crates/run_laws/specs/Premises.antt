@@ -84,8 +84,8 @@ KeepShared layout set streams =
     → IsOfStream streams s citing → IsOfStream streams t deleting → Owns layout t id
     → Cites citing.bytes id → ¬ SomeLineDeletes deleting.bytes id
 
--- No stream of the set deletes an identity of its own that another stream of the set cites, in all
--- bytes that their readers have at the start. These bytes are known.
+-- In all bytes that the readers of the set's streams have at the start, no stream deletes an
+-- identity of its own that another one cites. These bytes are known.
 abbrev pub ReadersKeepShared : LayoutValue → (ℕ → Bool) → List InputObservation → Type 0
 ReadersKeepShared layout set observed =
     (s t id : ℕ) (citing deleting : InputObservation) → s ≢ t → IsTrue (set s) → IsTrue (set t)

@@ -21,10 +21,10 @@ pub record ComeToVerdict (cube : CubeValue) (history : History)
   pub within : list_any (λ report. report.within) reports
       ≡ list_any (λ entry. is_within cube entry.1) (published history)
 
--- The run's lines are serializable: for every closed set of its streams, if no identity that one of
+-- The run's lines are serializable. For every closed set of its streams, if no identity that one of
 -- them found live and doesn't own is retired after the run's history, the set's lines have an order
--- in which a checker with one thread gives the same reports; and if all streams together meet this
--- condition, they have such an order with the verdict of the reports.
+-- in which a checker with one thread gives the same reports. If all streams together meet this
+-- condition, their lines have an order of this kind that also has the verdict of the reports.
 pub record IsSerializable {formula : Cnf} {run_params : RunParamsValue}
     {observed : List InputObservation} {reports : List Report}
     (run : IsRun formula run_params observed reports) : Type 0 where

@@ -66,8 +66,8 @@ pub fn match_is_reading()
     ensures { MatchIsReading }
 {}
 
-/// If a reader failed, its stream is a reading of the bytes before those that the reader has left
-/// after the failure.
+/// If a reader failed, its stream is a reading of the bytes that the reader had at the start,
+/// without those that it still has after the failure.
 pub fn failed_is_reading()
     ensures { FailedIsReading }
 {}

@@ -100,10 +100,10 @@ pub fn valid_empty()
 {}
 
 /// Suppose that a closed set of streams is judged by a legal history, and that one of these streams
-/// is reported as ended. This stream has the same report in every run in which its reader has the
-/// stream's bytes, and the readers of the set's other streams have at least the bytes of those
-/// streams, unless memory ran out, or a read failed, or a line of the stream cites another stream's
-/// clause that wasn't there yet or was no longer there.
+/// is reported as ended. Take a run in which this stream's reader has the stream's bytes, and the
+/// readers of the set's other streams have at least those streams' bytes. There the stream has the
+/// same report, unless memory ran out, a read failed, or a line of the stream cites another
+/// stream's clause that wasn't there yet or was no longer there.
 pub fn valid_in_any_run()
     ensures { ValidInAnyRun }
 {
@@ -114,10 +114,10 @@ pub fn valid_in_any_run()
     cited_fetched();
 }
 
-/// If lines of a set of streams have a valid order, then in every run in which the readers begin
-/// with these lines, the report of each stream says at least what the report of its lines says,
-/// unless memory ran out or a read failed in these lines, or one of them cites another stream's
-/// clause that wasn't there yet or was no longer there.
+/// Suppose that lines of a set of streams have a valid order, and that the bytes of a run's readers
+/// begin with these lines. Then the report of each stream says at least what the report of its
+/// lines says, unless memory ran out or a read failed in these lines, or one of them cites another
+/// stream's clause that wasn't there yet or was no longer there.
 pub fn together_begins()
     ensures { TogetherBegins }
 {
@@ -131,10 +131,10 @@ pub fn together_begins()
     cited_fetched();
 }
 
-/// If lines of a set of streams have a valid order, then in every run in which the readers begin
-/// with these lines, and one stream has nothing after its lines, that stream ended with its valid
-/// report, unless memory ran out, or a read failed, or one of its lines cites another stream's
-/// clause that wasn't there yet or was no longer there.
+/// Suppose that lines of a set of streams have a valid order, that the bytes of a run's readers
+/// begin with these lines, and that one stream has nothing after its lines. Then that stream ended
+/// with its valid report, unless memory ran out, a read failed, or one of its lines cites another
+/// stream's clause that wasn't there yet or was no longer there.
 pub fn valid_together()
     ensures { ValidTogether }
 {

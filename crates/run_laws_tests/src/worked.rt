@@ -171,8 +171,8 @@ fn shared_lines_are_counted()
 }
 
 /// In a round-robin order, stream 1 comes first, then stream 2, and so on; a stream that has no
-/// line left drops out. An order isn't round-robin if stream 1 comes later, or if a stream takes
-/// two lines in a row while another has lines, or is left out.
+/// line left drops out. An order isn't round-robin if stream 1 comes later, if a stream takes two
+/// lines in a row while another has lines left, or if a stream is passed over.
 fn lines_go_round()
     ensures round { IsRoundRobin (1 ∷ 2 ∷ 1 ∷ []) }
     ensures late { ¬ IsRoundRobin (2 ∷ 1 ∷ []) }

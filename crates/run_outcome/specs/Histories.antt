@@ -26,10 +26,10 @@ RanSo false formula run_params history streams reports =
     AllByRecursion (λ stream. IsSome stream.end) streams
 
 -- What a run promises of its first `many` streams, with threads or on one thread. `firsts` are the
--- streams' readers before the first read, and `lasts` the readers at the end. There is a run on
--- what is observed of the readers; its streams are what reads of the readers gave; and each stream
--- dropped exactly what its lines drop, up to the line that stopped the stream, if a line did. The
--- events with which these lines are good are the stream's own calls in the run's history.
+-- streams' readers before the first read, and `lasts` the readers at the end. There is a run whose
+-- streams match what is observed of the readers and are what the readers' reads gave; and each
+-- stream dropped exactly what its lines drop, up to the line that stopped the stream, if a line
+-- did. The events with which these lines are good are the stream's own calls in the run's history.
 pub record IsRunOfSome {S : Type 0} (many : ℕ) (serial : Bool) (view : SourceView S) (formula : Cnf)
     (run_params : RunParamsValue) (firsts lasts : List S) (reports : List Report)
     (dropped : List DroppedIdsValue) : Type 0 where

@@ -90,7 +90,7 @@ inside_owner p id is e = elim (eqb_tells id 0) [
   ]
 ]
 
--- if an identity is fetched again while it is vacant and tries are left, these fetches are a hint's
+-- the fetches of an identity, repeated while it is vacant and tries are left, are those of a hint
 pub asks_again : (c : StreamParams) (h s most : ℕ) (es : History) (r : Reply) → IsIdentity c.layout h → s ≡ c.stream
     → most ≡ tries_on (ownership_of c h) c.tries → FetchesUpTo most s h es r → FetchesHint c h es r
 asks_again c h s most es r is stream tries fetches =

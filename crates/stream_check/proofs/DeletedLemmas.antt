@@ -65,7 +65,7 @@ unfolding IsDistinct
 are_distinct [] apart = tt
 are_distinct (x ∷ xs) apart = (apart.0, are_distinct xs apart.1)
 
--- the identities taken so far: they are distinct, each was taken, and there are this many
+-- the identities taken so far: they are distinct, each was taken, and there are `many` of them
 pub record AreTaken (c : StreamParams) (n : State) (is_dropped : ℕ → Bool) (earlier : List ℕ) (many : ℕ) : Type 0 where
   pub ids : List ℕ
   pub apart : Apart ids

@@ -48,7 +48,7 @@ none_of (Some ending) none = absurd (cc)
 pub not_finished : {A : Type 0} (old : Option Ending) (ending : Ending) → old ≡ None → old ≡ Some ending → A
 not_finished old ending none some = absurd (let e : None ≡ Some ending = sym none ∙ some in cc)
 
--- if a line extends the state that a checker holds, it extends the checker's state, too
+-- if a line extends the `Going` state of an unfinished checker, it extends its `checker_state`, too
 pub feeds_line : (h n : StreamStateValue) (read : List ℕ) (r : ReaderState) (used : List ℕ) (blocks : List History) (free left : ℕ)
     (ending : Option Ending) → ending ≡ None → r ≡ Ok []
     → Extends h.params (Going (hold h read free)) used blocks (Going (hold n [] left))
@@ -113,7 +113,8 @@ ready_inside h read ending v p is ready =
 pub reads_on : (r : ReaderState) (read : List ℕ) → r ≡ Ok read → r ≡ Ok (read_of r)
 reads_on r read e = e ∙ ap (λ (b : List ℕ). Ok b) (sym (ap read_of e))
 
--- if bytes lead from the state that a checker holds to a report, they lead from the checker to it
+-- if bytes lead from the `Going` state of an unfinished checker to a report, they lead from its
+-- `checker_state` to that report
 pub feeds_finished : (h : StreamStateValue) (read used : List ℕ) (blocks : List History) (free : ℕ) (ending : Option Ending)
     (report : Report)
     (is_dropped : ℕ → Bool) → ending ≡ None

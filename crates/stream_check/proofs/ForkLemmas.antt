@@ -29,7 +29,7 @@ pub never_fork_alone : (g : History) → NeverFork g g
 never_fork_alone [] = tt
 never_fork_alone (d ∷ g) = (λ same. refl, λ is. never_fork_alone g)
 
--- if lists with the same first events never fork, neither do the rests
+-- if lists with the same first events never fork, neither do the lists without these events
 pub never_fork_after : (a g h : History) → NeverFork (a ++ g) (a ++ h) → NeverFork g h
 never_fork_after [] g h never = never
 never_fork_after (d ∷ a) g h never = never_fork_after a g h (never.1 refl)

@@ -25,7 +25,7 @@ ready_new f layout cube stream tries v p new fits caller own = record {
       let here = subst (λ (c : Caller). Owns c.layout c.stream id) caller owns in own id here ∙ opening-owned f layout stream id fits here;
 }
 
--- a checker can still be fed after legal events of other streams, if the stream's own identities
+-- a checker can still be fed after legal events of other streams, if its stream's own identities
 -- are as these events leave them
 pub ready_stays : (v : CheckerValue) (p q : CallerView) (es : History)
     → IsReadyAt v p → q.caller ≡ p.caller

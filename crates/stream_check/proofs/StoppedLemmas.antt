@@ -13,7 +13,8 @@ use Rattle.stream_check.specs.StreamContext.{context_of, is_among, deleted_by}
 use Rattle.stream_check.specs.Stopping.{StopsAtLine}
 use Rattle.stream_check.specs.lemmas.StoppingLemmas.{AreDeletedFirst}
 
--- two equally long lists of lines at the start of the same bytes are equal, and so are the rests
+-- two equally long lists of lines at the start of the same bytes are equal, and so are the bytes
+-- after them
 same_lines : OneFirstLine → (lines others : List StreamLine) (rest left : List ℕ) → AllByRecursion IsWithinLimits lines
     → AllByRecursion IsWithinLimits others → length lines ≡ length others
     → flat_map line_text lines ++ rest ≡ flat_map line_text others ++ left → (lines ≡ others) × (rest ≡ left)

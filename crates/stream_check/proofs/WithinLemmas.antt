@@ -111,8 +111,8 @@ ends_delete c n lines rest end back report answers are (at_end pending no_block 
 owns_below : (p : LayoutValue) (s id : ℕ) → Owns p s id → id ≤ last_identity p
 owns_below p s id owns = (identity_below p id (λ e. let f : owners.Outside ≡ owners.Stream s = sym e ∙ owns in cc)).1
 
--- the additions and the formula's clauses together aren't more than the last identity, which is
--- within the layout
+-- the number of additions plus the number of the formula's clauses is at most the last identity
+-- used, which is at most the layout's last one
 record AreFewAdded (c : StreamParams) (lines : List StreamLine) : Type 0 where
   few : length (additions_of lines) + c.layout.clauses ≤ (context_of c lines).last
   below : (context_of c lines).last ≤ last_identity c.layout

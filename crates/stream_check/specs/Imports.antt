@@ -11,8 +11,8 @@ use Rattle.stream_check.specs.Verdicts.{LineVerdict, Good, Bad, Violates}
 use Rattle.stream_check.specs.Lookup.{AreFound, LooksUp}
 
 -- An import is valid: its number is an identity, but not the stream's own; its literals are over
--- the variables; and the clause that its identity names has the same literals, in any order, and
--- each of them any number of times.
+-- the variables; and they are the literals of the clause that its identity names, in any order,
+-- each of them one or more times.
 pub record IsValidImport (layout : LayoutValue) (stream : ℕ)
     (Names : List ℕ → List Clause → Type 0) (id : ℕ) (lits : List ℤ) : Type 0 where
   pub identity : IsIdentity layout id

@@ -88,7 +88,7 @@ ReadyNew = (f : Cnf) (layout : LayoutValue) (cube : CubeValue) (stream tries : �
     → ((id : ℕ) → Owns layout stream id → p.own id ≡ opening f id)
     → IsReadyAt v p
 
--- if a checker can be fed, given its stream's view of the one-thread map, it still can be fed after
+-- if a checker can be fed, given its stream's view of the one-thread map, it can still be fed after
 -- another stream's calls
 abbrev pub ReadyBeside : Type 0
 ReadyBeside = (v : CheckerValue) (old new : Plain) (t : ℕ) (es : History)

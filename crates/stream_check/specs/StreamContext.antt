@@ -44,8 +44,8 @@ context_of params lines = record {
       is_shared (ownership_of params id) && list_any (λ line. is_among (deleted_by line) id) lines;
 }
 
--- A count in 64 bits, which stops at 2^64 - 1. Counts of additions never get there, since
--- identities don't; counts of deletions don't in a legal history.
+-- A count in 64 bits, which stops at 2^64 - 1. Counts of additions never reach it, since identities
+-- don't; in a legal history, neither do counts of deletions.
 abbrev pub capped : ℕ → ℕ
 capped count = min count (2 ^ 64 - 1)
 

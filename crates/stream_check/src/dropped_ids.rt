@@ -50,7 +50,8 @@ impl DroppedIds {
         ensures full { OnErr result (self.new.spare ≡ 0) }
     {
         let added = self.insert(id);
-        // There may be room after a refused growth: `HashSet` only promises that there isn't less.
+        // There may be room after a refused growth: `HashSet` only promises that there isn't less
+        // than before.
         if added.is_err() && self.has_room() {
             return self.insert(id);
         }

@@ -36,8 +36,8 @@ pub enum Fault {
     Excess(Id),
     /// The hints ended without a conflict.
     NoConflict,
-    /// This can't be deleted: it is one of the stream's own identities that isn't live, an identity
-    /// that the stream dropped before, or a number that isn't an identity.
+    /// A deletion lists this number, which is one of the stream's own identities that isn't live,
+    /// an identity that the stream dropped before, or not an identity.
     NotLive(Id),
     /// The import's literals differ from the literals of the clause under this identity.
     Differs(Id),

@@ -41,8 +41,8 @@ pub fn decided_before_failure()
     ensures { DecidedBeforeFailure }
 {}
 
-/// The report of a stream that a line stopped determines what the stream dropped, if the report's
-/// numbers are below 2^64 - 1.
+/// If a line stopped a stream, and its report's numbers are below 2^64 - 1, the stream's bytes and
+/// the report determine what it dropped.
 pub fn dropped_once()
     ensures { DroppedOnce }
 {

@@ -1,5 +1,5 @@
 //! Starts the threads: first all that check, then all that read. No thread does anything before all
-//! have started, so the order only decides which stream a failed start names.
+//! have started, so the order only decides which stream the fault names if a start fails.
 ghost use Rattle.std.specs.Prelude.{◌≡◌, ◌-◌, ◌<◌, ◌≤◌, [], IfErr, IfSome, OnOk, map, take, vec_capacity, vec_len};
 ghost use Rattle.std.specs.List.{AllByRecursion};
 ghost use Rattle.stream_threads.specs.Jobs.{CanBegin};

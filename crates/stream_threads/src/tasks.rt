@@ -57,7 +57,7 @@ impl<'a, G: Gate + Drop> Promise<Result<CheckedPass, OnceToken<'a, bool>>> for C
         (λ token. (token.of ≡ task.signal.value.id) × (token.value ≡ false)) };
 }
 
-/// The result of a thread when the signal said to start: `signalled` proves this, so the thread's
+/// The result of a thread that got the signal to start: `signalled` proves this, so the thread's
 /// own token can't say 'leave'.
 pub(crate) fn result_after_start<'a, T>(
     end: Result<T, OnceToken<'a, bool>>,

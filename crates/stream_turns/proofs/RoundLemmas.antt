@@ -84,7 +84,8 @@ just_one : (ending : Option Ending) (bs : List History) → ending ≡ None → 
 just_one None bs going are = are
 just_one (Some ending) bs going are = cc
 
--- if a turn appends at most one block of stream s, the stream has that many more lines
+-- if a turn appends at most one block of stream s, the stream's count of lines grows by the number
+-- of blocks
 own_lines : (s : ℕ) (blocks : List Block) (bs : List History) → length bs ≤ 1
     → line_count s (streams_of (blocks ++ tagged s bs)) ≡ line_count s (streams_of blocks) + length bs
 unfolding tagged

@@ -54,7 +54,7 @@ spent-others s t (e ∷ es) calls other =
     ap (λ (h : History). sum_by (λ p. length p.1) (published h)) (cond-false (eqb (stream_of e) t) (e ∷ own es t) (own es t) not_mine)
     ∙ spent-others s t es calls.1 other
 
--- a number that isn't a stream's uses no room
+-- if no stream has the number t, no room is used under it
 spent-outside : (p : LayoutValue) (t : ℕ) (blocks : List Block) → AllByRecursion (IsBlockWithin p (λ s. true)) blocks → ¬ IsStream p t
     → spent t (events_in blocks) ≡ 0
 spent-outside p t [] within outside = refl

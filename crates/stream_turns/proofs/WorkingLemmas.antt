@@ -160,7 +160,7 @@ module _ {S : Type 0} (view : SourceView S) where
     stopped_drops ending v.params bytes blocks v.tally v.dropped reaches.1 full,
   )
 
-  -- feeding the checker with bytes that were read is a step
+  -- feeding the checker bytes that were read is a step
   pub worker_fed : (reader : S) (unread front rest : List ℕ) (v u : CheckerValue) (room after : ℕ) (blocks : List History)
       → view.has_failed reader ≡ false → unread ≡ front ++ rest → v.ending ≡ None → u.params ≡ v.params
       → Extends v.params (checker_state v room) front blocks (checker_state u after)

@@ -151,8 +151,8 @@ static const char *find_program(const char *named, const char *name) {
 // A name of the open file that works in all processes, even once its path leads to another file.
 static const char *name_of(int file) { return text("%s/fd/%d", self, file); }
 
-// A sealed copy of what can't be read twice. lrupd takes at most 2^28 literals and clauses, with
-// eight digits, a sign and a blank each.
+// A sealed copy of what can't be read twice. lrupd accepts at most 2^28 literals and clauses; each
+// needs at most ten bytes here: a sign, eight digits and a blank.
 static int copied(int file, const char *path) {
     static char bytes[1 << 16];
     int copy = memfd_create("lrup-solve", MFD_ALLOW_SEALING | MFD_CLOEXEC);
@@ -411,7 +411,7 @@ static int as_expected(const char *line) {      // returns 0 only for the line t
 static int answer(void) {
     bool is_read = exited_with(PROBE, UNKNOWN), is_satisfied = is_whole && !verdict;
     bool is_refused = children[PROBE].end.si_code == CLD_EXITED && !is_read;    // by lrupd
-    if (!is_read) is_satisfied = false;                    // trusted (refused): lrupd accepted none
+    if (!is_read) is_satisfied = false;                    // trusted (refused): no accepted formula
     if (is_satisfied && !satisfies(formula, true)) is_satisfied = false;        // trusted (model)
     if (assume && is_satisfied) is_satisfied = satisfies(assume, false);        // trusted (assumed)
     if (is_refused && !has_refused && !verdict && !ended_by) errx(1, "lrupd didn't accept FORMULA");
@@ -449,7 +449,7 @@ int main(int count, char **words) {
     bool is_help = options.help && !options.expect;     // lrup-engines gives the status
     if (is_help && execv(words[0], words) != 0) err(1, "cannot start %s", words[0]);
     lrupd = find_program(options.lrupd, "lrupd");
-    self = realpath("/proc/self", NULL);    // of this /proc, which may be another namespace's
+    self = realpath("/proc/self", NULL);    // this /proc may belong to another namespace
     if (self == NULL || null < 0) err(1, "cannot open /proc/self or /dev/null");
     formula = is_usable ? open_input(options.formula ? options.formula : "-") : name_of(-1);
     if (is_usable && options.assume) assume = open_input(options.assume);   // trusted (assume)

@@ -32,8 +32,8 @@ IsLayoutCause layout (faults.Layout fault) = IsFault layout fault
 IsLayoutCause layout fault = ⊥
 
 -- why the streams of a formula weren't checked: they have no layout; or they have one, but a thread
--- wasn't started, or a ring lost the end of a stream that was read to its end, after the earlier
--- streams were judged; or memory ran out
+-- wasn't started, or a ring lost the end of a stream, after that stream had been read and the
+-- earlier ones judged; or memory ran out
 abbrev pub IsRunCause : {R : Type 0} → SourceView R → Bool → Cnf → RunParamsValue → List R
     → CommandFault → Type 0
 IsRunCause view serial formula run_params readers (faults.Layout fault) =

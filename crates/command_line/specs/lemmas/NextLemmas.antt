@@ -1,4 +1,4 @@
--- Lemmas about what the clauses are saved for.
+-- Lemmas about command lines that ask for a checkpoint or for rounds.
 use Rattle.std.proofs.Common.{◌≡◌, ◌∙◌, List, None, Some, refl, sym}
 use Rattle.clap.specs.Words.{Text}
 use Rattle.command_line.specs.CommandLine.{AskForBoth, IsCommandLineOf, checkpoint_of, rounds_of}

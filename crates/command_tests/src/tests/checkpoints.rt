@@ -109,7 +109,7 @@ fn a_stream_whose_reading_fails_is_not_gone_on_with(rt: HostRuntime) -> Result<(
 }
 
 /// `assert_saves` for a stream that drops the first clause, with this thing at the new file's path,
-/// if these writes to standard output and standard error fail.
+/// and with failures of these writes to standard output and standard error.
 fn assert_dropping(
     rt: &impl Host,
     thing: Thing,
@@ -151,8 +151,8 @@ static FAULTS: [(Thing, (usize, usize), Ends, Left); 6] = [
     (Full, (0, 0), NO_MEMORY, CREATING),
     (Lost, (0, 0), UNSAVED, IS_LOST),
     (Breaking(1), (1, 0), (7, "", BOTH), IS_EMPTY),
-    // Standard error fails in the message about the checkpoint: nothing more is written there, and
-    // the status is the same.
+    // A write of the message about the checkpoint fails: nothing more is written to standard error,
+    // and the status is the same.
     (Breaking(1), (0, 2), (9, REPORT, "lrupd: "), IS_EMPTY),
     (Breaking(1), (1, 2), (7, "", "lrupd: "), IS_EMPTY),
 ];

@@ -51,8 +51,8 @@ const ROW: Row = Row {
     kept: &[ALL],
 };
 
-/// What round 2 of the second row saves: it continues with the four clauses of `LESS`, now 1 to 4,
-/// and drops the first.
+/// What round 2 of the second row saves: it continues with the four clauses of `LESS`, which now
+/// have the identities 1 to 4, and drops the first.
 const LATER: &str = "p cnf 2 4
 c id 2
 1 -2 0
@@ -173,7 +173,7 @@ fn rounds_that_follow_each_other(rt: HostRuntime) -> Result<(), Fail> {
     Ok(())
 }
 
-/// 66 bytes. At three bytes a read, 22 reads give the first 64, and no further read follows.
+/// 66 bytes. At three bytes a read, 22 reads give the first 64 bytes, and no further read follows.
 const TOO_LONG: &str =
     "1 8 8\n1 8 8\n1 8 8\n1 8 8\n1 8 8\n1 8 8\n1 8 8\n1 8 8\n1 8 8\n1 8 8\n1 8 8\n";
 

@@ -30,13 +30,13 @@ pub(super) enum Thing<'a> {
 /// What a run gets besides its words.
 #[derive(Clone, Copy)]
 pub(super) struct Setup<'a> {
-    /// At `f`.
+    /// The text at `f`.
     pub(super) formula: &'a str,
-    /// At `a`.
+    /// The text at `a`.
     pub(super) assumed: &'a str,
-    /// At `1`, `2` and so on up to 9.
+    /// The texts at `1`, `2` and so on up to `9`.
     pub(super) streams: &'a [&'a str],
-    /// At other paths, or in place of the files above.
+    /// What is at other paths, or in place of the files above.
     pub(super) things: &'a [(&'a str, Thing<'a>)],
     /// The most bytes that a read gives.
     pub(super) most: usize,
@@ -67,13 +67,13 @@ impl<'a> Setup<'a> {
         Setup { streams, ..SETUP }
     }
 
-    /// Also has these things.
+    /// This setup, with these things.
     pub(super) fn with(self, things: &'a [(&'a str, Thing<'a>)]) -> Setup<'a> {
         Setup { things, ..self }
     }
 
-    /// Also lets one write to standard output and one to standard error fail: the writes with these
-    /// numbers, counted from 1. For 0, no write fails.
+    /// This setup, in which one write to standard output and one to standard error fail: the writes
+    /// with these numbers, counted from 1. For 0, no write fails.
     pub(super) fn failing(self, out_fails_at: usize, err_fails_at: usize) -> Setup<'a> {
         Setup {
             out_fails_at,

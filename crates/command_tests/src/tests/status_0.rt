@@ -47,8 +47,8 @@ fn a_formula_whose_bytes_are_known(rt: HostRuntime) {
     same(&rt, refutes(&rt, rt.alloc(), FOUR, ""), false);
 }
 
-/// Every path has a file. The first opening finds one text, and each later opening finds another
-/// text. Creating files fails.
+/// Every path has a file. The first opening finds one text, and all later openings find a second
+/// one. Creating files fails.
 #[derive(Drop)]
 struct Changing<'a> {
     text: &'a str,
@@ -110,8 +110,8 @@ impl<'a> Machine for Changing<'a> {
     }
 }
 
-/// Whether the program ends with status 0 if one path names formula and stream. If it does, the
-/// text that the first opening found describes a formula that no assignment satisfies.
+/// Whether the program ends with status 0 if one path names both the formula and the stream. If it
+/// does, the text that the first opening found describes a formula that no assignment satisfies.
 fn refutes_the_first<T: Threads + Wait + Sync + Clock>(
     rt: &T,
     alloc: Global,

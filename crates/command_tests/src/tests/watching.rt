@@ -147,9 +147,10 @@ s UNKNOWN
 
 const IN_3: &str = "c round 3\nc stream 1: 0 added, 0 deleted, ended\ns UNKNOWN\n";
 
-/// The words, the clock's delay, the expected lines, and the number of lines and of watchers. There
-/// is a line for each stream, and one for each round after the first. A watcher is made for each
-/// line and for each opening; in rounds, the sizes and a stream of round 4 are opened, too.
+/// The words, how far the clock moves at a time, the expected lines, and the number of lines and of
+/// watchers. There is a line for each stream, and one for each round after the first. A watcher is
+/// made for each line and for each opening; in rounds, the sizes and a stream of round 4 are
+/// opened, too.
 static HEARD: [(&str, Option<u64>, &[&str], u64, u64); 6] = [
     ("f 1 2", Some(0), &[], 0, 0),
     ("--watch f 1 2", Some(0), &[], 2, 5),
@@ -159,7 +160,7 @@ static HEARD: [(&str, Option<u64>, &[&str], u64, u64); 6] = [
     ("--watch --rounds d f 1", None, TIMELESS, 5, 13),
 ];
 
-/// With the flag, each line is one write; without it, nothing is written.
+/// With `--watch`, each line is one write; without it, nothing is written.
 #[test]
 fn watchers_take_whole_lines(rt: HostRuntime) -> Result<(), Fail> {
     for way in &WAYS {

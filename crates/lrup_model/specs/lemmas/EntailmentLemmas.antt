@@ -69,8 +69,8 @@ decide_clause a (x ∷ c) =
 
 -- Soundness of propagation
 
--- if clauses refute that these literals are false, an assignment that satisfies the clauses makes
--- one of the literals true
+-- if clauses refute the assumption that these literals are false, an assignment that satisfies the
+-- clauses makes one of the literals true
 pub refuted : (vars : ℕ) (a : Assignment) (n : List ℤ) (ds : List Clause)
     → AllByRecursion (λ d. IsClause vars d × Satisfies a d) ds → Refutes n ds → MakesNone a n → ⊥
 refuted vars a n [] hold refutes none = refutes

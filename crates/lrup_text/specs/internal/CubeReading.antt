@@ -19,8 +19,8 @@ import_front = 49 ∷ space ∷ letter_i ∷ space ∷ []
 abbrev pub EndsAtSpot : List ℕ → Spot → Type 0
 EndsAtSpot read spot = Tracks (import_front ++ read) spot
 
--- whatever was read up to a spot of this kind, the rest completes it to a text with this fault, if
--- one more literal is allowed there
+-- if what was read ends at a spot of this kind, and one more literal is allowed there, the rest
+-- completes it to a text with this fault
 abbrev pub IsRestFault : (ℕ → Spot) → List ℕ → CubeFault → Type 0
 IsRestFault spot_after rest fault =
     (read : List ℕ) (count : ℕ) → count < 65535 → EndsAtSpot read (spot_after count)

@@ -115,7 +115,8 @@ pub puts_all_next : {E : Type 0} (r : Result (Unit {0}) E) {a b : Option (List �
 puts_all_next (Ok u) c j y puts next is = puts_next puts next is
 puts_all_next (Err e) {a} {b} c {h} j y puts next is = subst (λ t. Breaks a c h t) (sym is) (breaks_then puts next)
 
--- if a call then writes what is still held, the whole text was written, or, after a fault, a prefix
+-- if one call wrote or held a whole text, and another writes what is still held, the whole text was
+-- written, or, after a fault, a prefix
 pub writes_all_next : {E : Type 0} (r : Result (Unit {0}) E) {a b : Option (List ℕ)}
     (c : Option (List ℕ)) {i z : List ℕ} → Puts a b [] i z → WritesText r b c i → WritesText r a c z
 writes_all_next (Ok u) {a} {b} c {i} {z} puts next = subst (λ t. Appends a c t) (sym puts.is) (appends_then a b c puts.went i puts.appends next)

@@ -45,7 +45,7 @@ impl<'a> Holds<'a> {
         self.late.load(Ordering::SeqCst)
     }
 
-    /// The first hold waits for a call. This is how many times that call was made.
+    /// How many times the second call of the first hold was made.
     pub(super) fn made(&self) -> u64 {
         let first = self.made.first();
         first.map_or(0, |count| count.load(Ordering::SeqCst))

@@ -97,7 +97,8 @@ impl Tape {
     }
 }
 
-/// A sink onto a tape. Write number `fails_at`, counted from 1, fails; for 0, no write fails.
+/// A sink that writes to a tape. Write number `fails_at`, counted from 1, fails; for 0, no write
+/// fails.
 #[derive(Clone, Copy)]
 pub(super) struct Pen<'a> {
     tape: &'a Tape,

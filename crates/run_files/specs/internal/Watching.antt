@@ -1,4 +1,4 @@
--- What `--watch` reports about a file that takes long to open (this project's own).
+-- What `--watch` reports about a file that takes a long time to open (this project's own).
 use Rattle.std.specs.Prelude.{◌++◌, ℕ, List, codes}
 
 -- the line for a file that isn't open after a second, such as a pipe that no process has opened

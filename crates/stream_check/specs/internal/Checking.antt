@@ -115,7 +115,7 @@ abbrev pub counted : Result (Unit {0}) LineStop → ℕ
 counted (Ok _) = 1
 counted (Err stop) = 0
 
--- the shared ones among these identities were dropped, too
+-- the new dropped identities are the old ones and the shared ones among `ids`
 abbrev pub DropsMore : StreamParams → (ℕ → Bool) → List ℕ → (ℕ → Bool) → Type 0
 DropsMore params old ids new =
     (id : ℕ) → new id ≡ (old id || is_shared (ownership_of params id) && is_among ids id)

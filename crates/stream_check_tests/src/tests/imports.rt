@@ -102,7 +102,7 @@ fn a_foreign_clause_is_compared(rt: HostRuntime) -> Result<(), Fail> {
     are_judged(&rt, rt.alloc(), FOREIGN)
 }
 
-/// The formula of a tautology, clause 1, and the empty clause, 2.
+/// A formula of two clauses: clause 1 is a tautology, and clause 2 is empty.
 fn odd_formula(alloc: Global) -> Result<Formula, AllocError> {
     let mut formula = Formula::new(alloc, 1);
     formula.push(&[lit(1), lit(-1)])?;

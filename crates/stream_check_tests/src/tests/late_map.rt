@@ -261,7 +261,7 @@ fn calls_of(alloc: Global, options: Options<'_>, lines: &str) -> Result<u64, Fai
     Ok(log.calls())
 }
 
-/// When 6 is published, the lines, and the calls as in `Log`.
+/// The time at which 6 is published, the lines, and the calls as in `Log`.
 static CALLS: [(Late, &str, u64); 3] = [
     (Late::Never, "5 2 0 1 2 0\n5 d 5 0\n", 11_51_12_52_65_75_85),
     (Late::Never, "5 -2 0 6 0\n", 16_56_26_56_36_56_46_56),

@@ -72,7 +72,7 @@ fn fed_more<M: ClauseMap>(checker: &mut Checker, map: &mut M) -> (usize, CheckSt
     (more.used, more.status)
 }
 
-/// The checker's report after it was fed `LINES` through stream 1's desk.
+/// Feeds the checker `LINES` through stream 1's desk, and returns its report.
 fn said_at_desk<R: Abort>(rt: &R, map: &mut PlainMap, checker: &mut Checker) -> Report
     requires stream { IsStream map.old.layout 1 }
     requires ready { IsReadyAt checker.old (plain_caller_view map.old 1) }

@@ -130,8 +130,7 @@ fn report(added: u64, deleted: u64, ending: Ending) -> Report {
     }
 }
 
-/// The report of a text that comes with at most `most` bytes per read, and whose read number
-/// `fails_at` fails.
+/// The report of a text: each read gives at most `most` bytes, and read number `fails_at` fails.
 fn said_of<T: Threads + Wait + Sync>(
     rt: &T,
     alloc: Global,

@@ -2,7 +2,7 @@ use Rattle.std.proofs.Common.{◌∷◌, [], List, refl}
 use Rattle.lrup_model.specs.Pass.{View}
 use Rattle.clause_store_tests.proofs.tests.meeting.meet_both_twice.Goals as goal
 
--- follows from the law `SyncTwice`, whose conditions the two rounds meet
+-- follows from the law `SyncTwice`: the two rounds satisfy its conditions
 pub returns-clause-one : goal.returns-clause-one
 returns-clause-one c =
     let a : View = c.args.first.now.view in
