@@ -5,7 +5,7 @@ ghost use Rattle.run_laws.specs.OrderLaws.{JudgedBlocks, DeletedRetired, LinesOr
 use lrup_text::laws::{a_beginning_is_cut_alike, bytes_begin_with_one_line, every_stream_is_cut};
 use stream_check::laws::{cited_fetched, early_events, reduced_stream, vacant_tries_again};
 
-/// The blocks by which a stream is judged have the form of lines.
+/// Each block by which a stream is judged has the form of a line's events.
 pub fn judged_blocks()
     ensures { JudgedBlocks }
 {
