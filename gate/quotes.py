@@ -6,7 +6,7 @@
 
 A block of ```agda or ```rust is a quote; the last link in the paragraph above leads to its source.
 A definition is quoted once, whole and with its comment. In code, `..` replaces what is left out. A
-section says that the contracts quoted there 'reach N definitions', and a page says that it 'quotes
+section says that the contracts quoted there 'use N definitions', and a page says that it 'quotes
 N definitions'. A page, or one before it in PAGES, has a list that explains names from libraries.
 """
 import re
@@ -155,9 +155,9 @@ def wrong_counts(page: Page) -> Iterator[str]:
                  for thing in quote.things()}
         count = sum(thing.is_definition() for thing in antt.closure(roots))
         text = " ".join(lines[first - 1:last - 1])
-        if re.findall(r"\breach(?:es)? (\d+) definitions", text) != [str(count)] * bool(roots):
+        if re.findall(r"\buses? (\d+) definitions", text) != [str(count)] * bool(roots):
             yield (f"{shown(page.path)}:{first}: say once in this section that its contracts "
-                   f"'reach {count} definitions'")
+                   f"'use {count} definitions'")
 
 
 def wrong_text(page: Page) -> Iterator[str]:

@@ -59,8 +59,8 @@ def rows() -> List[Row]:
             ("a wrong link", refused, "[`plain_words`](../crates/command_line/",
              "[`plain_words`](../crates/dimacs/",
              ["the link of plain_words leads to ../crates/dimacs/src/laws.rt"]),
-            ("a wrong count", refused, "reaches 31 definitions", "reaches 30 definitions",
-             ["its contracts 'reach 31 definitions'"]),
+            ("a wrong count", refused, "uses 31 definitions", "uses 30 definitions",
+             ["its contracts 'use 31 definitions'"]),
             ("a wrong clause", refused, "result ≡ 0 → Name", "result ≡ 3 → Name",
              ["doesn't have 'result ≡ 3"])]
 

@@ -28,7 +28,7 @@ public:
     double deadline() const;                    // set by --time; INFINITY without it
     std::string contradiction() const;          // of the assumptions; or ""
     bool is_model(const signed char *values) const;
-    std::string fault_of_assumptions() const;   // in their spelling; "" if unknown
+    std::string fault_of_assumptions() const;   // in the file's layout; "" if unknown
     // in lrupd's words, if lrupd refuses it, too
     [[noreturn]] void refuse_formula(const std::string &cause) const;
 

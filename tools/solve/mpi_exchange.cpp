@@ -87,7 +87,7 @@ void Exchange::place(Message &message) {
     }
 }
 
-// What wasn't sent in its own round isn't sent any more.
+// What wasn't sent in its own round is never sent.
 void Exchange::begin_round() {
     round = LOAD(shared->round);
     pass_over();

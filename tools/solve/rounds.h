@@ -35,7 +35,7 @@ public:
     std::string check_again();                  // starts that lrupd; returns why it can't, or ""
     std::string look();                         // returns why the run can't continue, or ""
     std::string feed(bool is_last);             // feeds lrupd; returns why it can't, or ""
-    bool is_behind() const { return checked < number; }     // lrupd reads rounds that have ended
+    bool is_behind() const { return checked < number; }     // lrupd still checks earlier rounds
     void save_last();                           // saves the last round, for a resumed run
     bool is_saving() const;
     std::string how_to_go_on();                 // a message

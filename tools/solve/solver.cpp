@@ -52,7 +52,7 @@ public:
 private:
     int variables;
     signed char *model;
-    std::string word, first, verdict;       // first: of the line
+    std::string word, first, verdict;       // first: the line's first word
     bool has_values = false;
 
     bool says_satisfiable(int status) const {

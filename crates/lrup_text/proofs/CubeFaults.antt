@@ -78,8 +78,8 @@ module _ (read : List ℕ) (spot : Spot) (byte : ℕ) (after : List ℕ) (occurs
       none lines.TooLong (BeginsOneLifted IsCubeLine) h
       (h.why.0, h.why.2, begins_cube h.why.0 h.why.2 (read ++ byte ∷ []) (h.why.1, h.why.3))
 
--- if a byte leads to the next spot, a fault of the rest after the byte is also a fault of the byte
--- and that rest
+-- if `byte` moves from `spot` to `next`, a fault of the text after it, from `next` on, is also a
+-- fault of the text that begins with `byte`, from `spot` on
 pub rest_fault : (spot next : ℕ → Spot) (byte : ℕ) (after : List ℕ) (fault : CubeFault) → ((n : ℕ) → Moves (spot n) byte (next n))
     → IsRestFault next after fault → IsRestFault spot (byte ∷ after) fault
 rest_fault spot next byte after fault moves h read n few occurs =

@@ -58,7 +58,7 @@ pub record Cut (stream : List ℕ) (lines : List StreamLine) (rest : List ℕ) :
   pub each : AllByRecursion IsWithinLimits lines
   pub last : HasNoLine rest
 
--- the part of a line that a reader may hold: it begins a line, and contains no whole one
+-- what a reader may hold of an unfinished line: a prefix of a line that contains no whole line
 pub record IsPending (bytes : List ℕ) : Type 0 where
   pub begins : Begins bytes
   pub whole : HasNoLine bytes

@@ -108,8 +108,8 @@ FailedIsReading = (observed : List InputObservation) (streams : List Stream) (s 
     → IsReadingOf whole stream_ends.Failed stream
 
 -- In two runs of one formula with the same parameters, a stream that cites only its own clauses and
--- the formula's has the same report if it is a reading of the same bytes and end in both, unless
--- memory ran out. The other streams and the use of threads make no difference.
+-- the formula's has the same report if both runs read the same bytes of it, with the same end,
+-- unless memory ran out. The other streams and the use of threads make no difference.
 abbrev pub SameReadingAgrees : Type 0
 SameReadingAgrees =
     (f : Cnf) (run_params : RunParamsValue) (s : ℕ) (whole : List ℕ) (end : StreamEnd)
