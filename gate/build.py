@@ -5,7 +5,7 @@
 
 rt allows one run at a time in a crate and those below it, and nearly all crates use lrup_model. So
 each library is proved in a lane: a folder with copies of its sources and of the libraries below it;
-meanwhile the library's out/ is there, too. Crates with the longest path to the program, in SECONDS,
+meanwhile the library's out/ is there, too. Crates with the longest path to the program, by SECONDS,
 come first, and the others get a smaller share of the cores. After an interruption, the next build
 keeps what was proved. At the end `rt run` proves and runs the program. It recognizes proved
 libraries by checksums, and proves all others again, so no proof depends on this script."""

@@ -50,7 +50,7 @@ SPELLINGS = ("anothers", "bu", "crate", "grat", "lits", "nd", "somes")
 
 @functools.lru_cache(maxsize=None)
 def files(pattern: str = r".*") -> List[Path]:
-    """The repository's files whose paths match, in order, without built ones."""
+    """The repository's files whose paths match the pattern, sorted, without build output."""
     found: List[Path] = []
     for folder, folders, names in os.walk(ROOT):
         folders[:] = [name for name in folders if name not in ("out", ".git", "__pycache__")]

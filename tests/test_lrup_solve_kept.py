@@ -1,6 +1,6 @@
 """Runs lrup-solve with --core and --lrat, and checks what it keeps of a run.
 
-The outputs have to be reported, and right: the core's clauses are those of the formula with the
+The outputs have to be reported and correct: the core's clauses are those of the formula with the
 given numbers, and lrupd refutes the core; an independent LRAT checker accepts the text, and so does
 lrupd. A record's check notices another formula. If lrupd refuses a line, lrup-explain is run."""
 import hashlib

@@ -58,7 +58,8 @@ def round_alone(program: str, options: Sequence[object], number: int, streams: i
 
 def want_same(program: str, options: Sequence[object], streams: int, work: Path,
               alone: Alone) -> None:
-    """Compares a run in rounds, over the streams in the folder d, with these runs."""
+    """Compares a run in rounds, over the streams in the folder d, with the runs of single rounds
+    in `alone`."""
     found, count = (run([program, *options, *first_words([[""] * streams])], cwd=work),
                     len(alone.answers))
     last = alone.answers[-1]

@@ -299,7 +299,7 @@ FEW = [
 
 
 class Garbled(NamedTuple):
-    """The formula, and the files, by name, of a record of rounds, or of a run."""
+    """A formula, and the files of a record of rounds or of a run, by name."""
     formula: Path
     files: Dict[str, str]
 
@@ -531,7 +531,7 @@ REFUSED = [("", 2, "error: no FORMULA"), ("f", 2, "error: no DIR or STREAM"),
            ("s s", 1, "s, line 1: no header 'p cnf VARIABLES CLAUSES': not DIMACS CNF"),
            ("--assume none f s", 1, "none: No such file or directory"),
            ("--assume there f s", 1,
-            "there: not a line of literals of FORMULA's variables and 0, with single spaces"),
+            "there: not one line of literals over FORMULA's variables and a final 0"),
            ("--lrat d/none/x f s", 1, "no line derives the empty clause"),
            ("--re-hint f s", 2, "error: --re-hint without --core or --lrat"),
            ("--re-hint=1 f s", 2, "error: no such option: --re-hint=1"),

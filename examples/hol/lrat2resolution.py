@@ -10,7 +10,7 @@ import sys
 from typing import Dict, Iterator, List, Set, Tuple
 
 Clause = Set[int]
-# A clause's id, and the variable on which it is resolved: 0 for the first clause.
+# A clause's id, and the variable on which it is resolved (0 for the first clause).
 Chain = List[Tuple[int, int]]
 
 

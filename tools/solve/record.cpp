@@ -234,7 +234,8 @@ std::string one_line(const std::string &text) {
     return line;
 }
 
-// Empty if the path isn't known: a path that this process can't see doesn't begin with a slash.
+// This program's path, or "" if it isn't known. The system gives a path that can't be reached
+// without a slash at its start.
 std::string own_path() {
     char path[LONGEST_PATH];
     ssize_t length = readlink("/proc/self/exe", path, sizeof path);

@@ -108,8 +108,8 @@ std::string Run::why_it_is_asked() const {
     return now() >= inputs.deadline() ? "time is up" : "";
 }
 
-// Before it ends, a run saves what it has found since its last round, or checks its proof, if that
-// takes only a few seconds. Returns whether it is still doing so.
+// Before it ends, a run spends at most a few seconds on saving what it has found since its last
+// round, or on the rest of its proof's check. Returns whether it is still doing so.
 bool Run::saves_first() {
     if (saving == 0) {
         saving = now() + SAVING;

@@ -32,6 +32,7 @@ void lines_free(void);                  // frees the buffers, which are as large
 const char *folder_of(const Texts *files);
 
 // A record of rounds.
+
 // stops if the record has another formula's digest
 void record_check(const char *folder, const char *formula);
 // the file's path, valid until the next call; a stream may be compressed

@@ -86,7 +86,7 @@ static void assume(Proof *proof, const char *path) {
             proof->assumed[2 * (llabs(literals[k]) - 1) + (literals[k] < 0)] = 1;
     }
     if (!literals)
-        stop("%s: not a line of literals of FORMULA's variables and 0, with single spaces", path);
+        stop("%s: not one line of literals over FORMULA's variables and a final 0", path);
 }
 
 // Prints a text, and a word, quoted for a shell as lrup-solve quotes words.

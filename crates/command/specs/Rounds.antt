@@ -245,7 +245,7 @@ ProgramEnds files words after out err status =
 
 -- What rounds saved.
 
--- The round saved to the folder, for the next round, a text of a formula over the same variables.
+-- For the next round, this round saved in the folder a text of a formula over the same variables.
 -- The clauses of that formula all follow from `formula`.
 abbrev pub SavesEntailed : {its : Effects} {given : CommandLine} {cube : CubeValue} → Text → Cnf
     → Round its given cube → Type 0

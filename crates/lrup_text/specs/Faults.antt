@@ -13,7 +13,7 @@ IsLineFaultOf bytes Truncated = ⊥
 IsLineFaultOf bytes RatHint = ¬ BeginsLifted false bytes × BeginsLifted true bytes
 
 -- No line begins with the text, which has this fault. Without its last byte, the text may still
--- become a line, and contains no whole one.
+-- become a line, and contains no whole line.
 pub record IsRefused (bytes : List ℕ) (fault : LineFault) : Type 0 where
   pub read : List ℕ
   pub byte : ℕ

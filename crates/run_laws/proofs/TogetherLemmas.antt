@@ -53,7 +53,8 @@ record IsOn (f : Cnf) (run_params : RunParamsValue) (t : ℕ) (base : Database) 
   agrees : Agrees f run_params.layout t base track.going.context m
   reaches : ReachesState (stream_params run_params t) track.bytes track.blocks (Going track.going)
 
--- the stream continues to the end of its lines, with its blocks of this order
+-- the stream continues to the end of its lines; its further blocks are those that it has in this
+-- order
 record GoesOn (run_params : RunParamsValue) (t : ℕ) (base : Database) (track : Track) (steps : List Step)
     (order : List Block) : Type 0 where
   more : List History

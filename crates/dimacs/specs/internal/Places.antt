@@ -44,8 +44,8 @@ after_run (byte ∷ bytes) = if is_separator byte then byte ∷ bytes else after
 abbrev pub IsCapped : ℕ → ℕ → Type 0
 IsCapped kept number = (kept ≡ number) ⊎ ((max_variable < kept) × (max_variable < number))
 
--- the text begins with a numeral, up to the next separator: what is kept of its number, and the
--- rest after it
+-- the text begins with a numeral that ends at the next separator: what is kept of the number, and
+-- the rest of the text
 pub record ReadsNumeral (text : List ℕ) (kept : ℕ) (rest : List ℕ) : Type 0 where
   pub numeral : is_numeral (first_run text) ≡ true
   pub number : IsCapped kept (value (first_run text))
