@@ -292,7 +292,7 @@ def no_room(work: Path) -> None:
                     if " d " not in line)
     checked = check(example("bmc.cnf"), proof, ["--memory", "20K"], work, largest_row())
     found = re.fullmatch(
-        r"lrup-exact: line (\d+): the clauses that the solver has " + said.format(""),
+        r"lrup-exact: line (\d+): the solver's clauses " + said.format(""),
         checked.filter_said)
     want((checked.status, checked.filter_status, found and int(found[1])),
          (3, 1, checked.added() + 1), checked.filter_said)
