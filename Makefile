@@ -273,8 +273,8 @@ $(SOLVE_TESTS): $(BUILT) exact pytest
 MINUTES ?= 60
 SEED ?= $(shell date +%s)
 days: $(BUILT) exact pytest ## check: kill processes of lrup-solve for MINUTES=60, and resume from what they saved
-	@echo "seed $(SEED)" && $(PYTEST) -vv --program $(PROGRAM) --seed $(SEED) --minutes $(MINUTES) \
-	tests/test_lrup_solve_days.py
+	@echo "seed $(SEED)" && $(PYTEST) tests/test_lrup_solve_days.py -vv --program $(PROGRAM) \
+	--seed $(SEED) --minutes $(MINUTES)
 
 neighbours: $(BUILT) pytest ## check: hostile streams never change the report on a good proof
 	@$(call rows_of,program_neighbours)
