@@ -46,7 +46,7 @@ typedef struct {
     Known *known;                       // by its identities
     Clauses dropped;                    // names only: of the formula's and other streams' clauses
     uint64_t awaited;                   // an identity of another stream, or 0
-    bool over, told;                    // ended; its fault has been explained
+    bool has_ended, fault_is_explained;
     Fault fault;
 } Stream;
 

@@ -89,7 +89,7 @@ static const Fault no_fault;
 // Whether the owner may still derive this clause.
 bool is_awaited(const Replay *replay, uint64_t identity) {
     const Stream *owner = owner_of(replay, identity);
-    return !replay->serial && !replay->is_stuck && !owner->over && owner->last < identity;
+    return !replay->serial && !replay->is_stuck && !owner->has_ended && owner->last < identity;
 }
 
 static Kind look_up(const Replay *replay, const Stream *stream, uint64_t identity) {

@@ -29,11 +29,11 @@ static void keep_line(Replay *replay, Reading line) {
 
 static void end_with(Replay *replay, Stream *stream, const Reading *line, Fault found) {
     bool is_first = !replay->faulty;
-    stream->over = replay->faulty = true;
+    stream->has_ended = replay->faulty = true;
     stream->fault = found;
     keep_line(replay, line ? *line : (Reading){ .kind = 0 });
-    stream->told = is_first || (replay->all && !is_effect(replay, stream));
-    if (stream->told) tell(replay, stream);
+    stream->fault_is_explained = is_first || (replay->all && !is_effect(replay, stream));
+    if (stream->fault_is_explained) tell(replay, stream);
 }
 
 // Whether the stream moved on or ended, instead of waiting.
@@ -60,8 +60,8 @@ static bool take_line(Replay *replay, Stream *stream) {
 }
 
 static bool take_turn(Replay *replay, Stream *stream) {
-    if (stream->over) return false;
-    if (stream->at == stream->end) return stream->over = true;
+    if (stream->has_ended) return false;
+    if (stream->at == stream->end) return stream->has_ended = true;
     if (stream->awaited && is_awaited(replay, stream->awaited)) return false;
     stream->awaited = 0;
     return take_line(replay, stream);
@@ -70,7 +70,7 @@ static bool take_turn(Replay *replay, Stream *stream) {
 // Call if all unfinished streams wait for each other. Returns the first stream of the cycle.
 static Stream *in_circle(const Replay *replay) {
     Stream *stream = replay->streams;
-    while (stream->over) stream++;
+    while (stream->has_ended) stream++;
     for (uint32_t k = 0; k < replay->count; k++) stream = owner_of(replay, stream->awaited);
     Stream *first = stream;
     for (uint32_t k = 0; k < replay->count; k++, stream = owner_of(replay, stream->awaited))
@@ -81,22 +81,22 @@ static Stream *in_circle(const Replay *replay) {
 // Takes a line of each stream in turn. Unless --serial is given, a stream waits if it cites a line
 // that another stream hasn't reached.
 static void replay_round(Replay *replay) {
-    uint32_t over = 0;
+    uint32_t ended = 0;
     for (bool moves = true; moves;) {
         moves = false;
         for (uint32_t k = 0; k < replay->count; k++)
             moves |= take_turn(replay, &replay->streams[k]);
     }
-    for (uint32_t k = 0; k < replay->count; k++) over += replay->streams[k].over;
-    if (over < replay->count) {
+    for (uint32_t k = 0; k < replay->count; k++) ended += replay->streams[k].has_ended;
+    if (ended < replay->count) {
         Stream *first = in_circle(replay);
         replay->is_stuck = true;
         take_line(replay, first);
         for (uint32_t k = 0; k < replay->count; k++)
-            if (!replay->streams[k].over) take_line(replay, &replay->streams[k]);
+            if (!replay->streams[k].has_ended) take_line(replay, &replay->streams[k]);
     }
     for (uint32_t k = 0; k < replay->count; k++)
-        if (replay->streams[k].fault.kind != NO_FAULT && !replay->streams[k].told)
+        if (replay->streams[k].fault.kind != NO_FAULT && !replay->streams[k].fault_is_explained)
             tell_short(replay, &replay->streams[k]);
 }
 

@@ -69,7 +69,7 @@ void Front::find(int &count, char **&words) {
     unsetenv("LRUP_FRONT");
     std::istringstream all(given);
     int of_probe = -1, of_lrupd = -1;
-    all >> told >> hears >> of_probe >> of_lrupd >> formula >> assumptions;
+    all >> from_front >> to_front >> of_probe >> of_lrupd >> formula >> assumptions;
     std::getline(all.ignore(1), lrupd, '\0');
     if (sscanf(formula.c_str(), "/proc/%d/", &pid) != 1) return;
     output_of_probe = name(of_probe);
@@ -87,9 +87,9 @@ std::vector<std::string> Front::words() const {
 // Opens the front's pipes through their names in /proc.
 void Front::open() {
     struct stat found;
-    file = ::open(name(told).c_str(), O_RDONLY | O_NONBLOCK | O_CLOEXEC);
+    file = ::open(name(from_front).c_str(), O_RDONLY | O_NONBLOCK | O_CLOEXEC);
     bool is_its = file >= 0 && fstat(file, &found) == 0 && S_ISFIFO(found.st_mode) && (number == 0 || number == found.st_ino);
-    if (is_its) heard = ::open(name(hears).c_str(), O_WRONLY | O_CLOEXEC);
+    if (is_its) heard = ::open(name(to_front).c_str(), O_WRONLY | O_CLOEXEC);
     if (heard < 0) refuse("cannot find lrup-solve, which has to be on the host of process 0");
     kept_open(file);
     kept_open(heard);

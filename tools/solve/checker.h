@@ -110,8 +110,8 @@ struct Front {
     std::string await_refusal(double deadline);         // lrupd's words; empty if it doesn't refuse
 
 private:
-    int pid = 0, told = -1, hears = -1;                 // its descriptors
-    uint64_t number = 0;                                // the inode of the pipe `told`; 0: unknown
+    int pid = 0, from_front = -1, to_front = -1;        // its descriptors
+    uint64_t number = 0;                                // the inode of its pipe to us; 0: unknown
     int file = -1, heard = -1;                          // pipes: from the front, and to it
     std::string given, unread;
 

@@ -105,7 +105,7 @@ std::vector<pollfd> Link::files() const {
     return list;
 }
 
-// The carrier ends once every process has told its carrier to leave.
+// The carrier ends once every process has called leave.
 void Link::leave() { send(LEAVE, 0, ""); }
 
 void Link::close() {

@@ -89,8 +89,8 @@ pub fn a_cube_has_no_text_fault()
     ensures { TextHasNoFault }
 {}
 
-/// Bytes are a text of a cube exactly if they are the text of literals, and the cube is the set of
-/// these literals.
+/// If variables have at most 18 digits, bytes are a text of a cube exactly if they are the text of
+/// literals over the variables, and the cube is the set of these literals.
 pub fn a_cube_text_is_read()
     ensures { CubeTextIsRead }
 {}
