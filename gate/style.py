@@ -1,11 +1,10 @@
 #!/usr/bin/env python3
 """Checks what neither the prover nor the compiler checks. The status is 1 if anything is wrong.
-With --words it shows how many words each page has.
 
 In the pages: unknown names in backticks, links that lead nowhere, quotations that are neither in
-TRUST nor in README, pages that are too long, and misspelt words. In the sources: lines that are too
-wide, lemmas that are stated twice, names with two meanings, definitions in the wrong folder, and
-edits that can't be applied. It also checks the picture of the crates and the version numbers.
+TRUST nor in README, and misspelt words. In the sources: lines that are too wide, lemmas that are
+stated twice, names with two meanings, definitions in the wrong folder, and edits that can't be
+applied. It also checks the picture of the crates and the version numbers.
 """
 import functools
 import os
@@ -21,27 +20,6 @@ sys.dont_write_bytecode = True
 import antt
 from antt import ROOT, shown
 
-# The maximum number of words of each page. Code, targets of links, and parts that gate/interface.py
-# compares don't count. `crates/NAME/` is the page on that crate's specs.
-MOST_WORDS = {shown(path): 670 for path in sorted(ROOT.glob("crates/*/specs/*.md"))}
-MOST_WORDS.update({shown(path): 140 for path in sorted(ROOT.glob("bench/*/README.md"))})
-MOST_WORDS.update((re.sub("/$", "/specs/README.md", name), int(most)) for name, most in (
-    word.split("=") for word in """
-    README.md=700 CONTRIBUTING.md=520 CHANGELOG.md=1310 bench/RESULTS.md=925
-    bench/solve/README.md=210 docs/USING.md=2250 docs/FORMAT.md=600
-    docs/EMITTING.md=1250 docs/TRUST.md=1200 docs/SECURITY.md=520 docs/DECISIONS.md=3030
-    docs/RELATED.md=930 docs/ARCHITECTURE.md=2970 docs/PROVING.md=1710 docs/PROMISES.md=2080
-    docs/AUDIT.md=1600 docs/THEOREMS.md=2190 docs/STORE_CALLS.md=390
-    docs/PROOFS_AND_ROUNDS.md=2000 docs/lrupd.1=590 docs/lrup-chain.1=295 docs/lrup-check.1=210
-    docs/lrup-exact.1=965 docs/lrup-explain.1=515 docs/lrup-solve.1=1720 docs/lrup-trim.1=550
-    examples/README.md=500 examples/solver/README.md=180 examples/planning/README.md=230
-    examples/lemma/README.md=200 examples/smt/README.md=110 examples/hol/README.md=100
-    examples/cubes/README.md=170 examples/resume/README.md=260 examples/fifo/README.md=190
-    crates/checkpoint/=330 crates/clause_store/=250 crates/command/=370 crates/command_line/=170
-    crates/dimacs/=370 crates/lrup_text/=500 crates/outcome_laws/=480 crates/propagate/=190
-    crates/run_files/=290 crates/run_laws/=610 crates/run_outcome/=210
-    crates/stream_check/specs/RUNS.md=490 crates/stream_threads/=370
-    crates/stream_turns/=130""".split()))
 # Names from the toolchain, the system or other programs, or made up by a page.
 FOREIGN = set("bazel glibc hugetlb my_lemma plm_rsh_agent sha socat veth".split())
 # Words that codespell doesn't know.
@@ -69,28 +47,6 @@ def without(pattern: str, text: str) -> str:
 def prose(path: Path) -> str:
     """A page without its blocks of code."""
     return without(r"(?<=\n\n)(?:    .*\n)+", without(r"^ *```[\s\S]*?^ *```$", path.read_text()))
-
-
-def words_of(name: str) -> int:
-    """Counts words: one for code in backticks or for a macro's arguments, and none for titles."""
-    if name.endswith(".1"):
-        text = without(r'^\.\\" (\w+): gate/[\s\S]*?^\.\\" end of \1$', (ROOT / name).read_text())
-        text = without(r"^\.Bd[\s\S]*?^\.Ed$", text)
-        text = re.sub(r"^\.(?:Ar|Cm|Dv|Ev|Fl|Nm|Pa|Pq|Ql|Sx|Sy|Xr)(?: .*?)?((?: [.,:;?!)])*)$",
-                      r"`", text, flags=re.M)
-        text = re.sub(r"^\..*$", "", text, flags=re.M)
-    else:
-        text = without(r"^<!-- (\w+): gate/[\s\S]*?^<!-- end of \1 -->$", prose(ROOT / name))
-        tables = r"\|" if name == "bench/RESULTS.md" else r"\|[|-]+$"
-        text = re.sub(rf"^(#|<!--|!\[|{tables}).*", "", text, flags=re.M)
-        text = re.sub(r"\]\([^)]*\)|[*\[\]]", "", re.sub(r"`[^`]*`", "`", text))
-    return len(re.findall(r"[\w`][\w'`,.-]*", re.sub(r"^ *(- |\d+\. )", "", text, flags=re.M)))
-
-
-def long_pages() -> Iterator[str]:
-    for name, most in MOST_WORDS.items():
-        if words_of(name) > most:
-            yield f"{name}: it has {words_of(name)} words, but may have {most}: shorten it"
 
 
 @functools.lru_cache(maxsize=None)
@@ -306,11 +262,8 @@ def wrong_versions() -> Iterator[str]:
 
 
 def main() -> None:
-    if sys.argv[1:] == ["--words"]:
-        print("\n".join(f"{name}: {words_of(name)} of {most}" for name, most in MOST_WORDS.items()))
-        return
-    checks = (unknown_names, dead_links, false_quotations, long_pages, misspelt, wide_lines,
-              repeated, misplaced, misfits, wrong_arrows, wrong_versions)
+    checks = (unknown_names, dead_links, false_quotations, misspelt, wide_lines, repeated,
+              misplaced, misfits, wrong_arrows, wrong_versions)
     found = {check.__name__.replace("_", " "): list(check()) for check in checks}
     counts = ", ".join(f"{len(lines)} {name}" for name, lines in found.items())
     print("\n".join([*(line for lines in found.values() for line in lines), f"style: {counts}"]))
