@@ -1,25 +1,29 @@
 # `make help` lists the targets, with the texts after ##. Building needs Rattle's toolchain (the
 # command rt) and Python 3; make demo and make test also need a C compiler.
+#
+# Everything that is built, but for Rattle's crates, is below OUT. Nothing there is a link, since rt
+# refuses links. `make build` puts a copy of the proved program there, so that it stays whatever rt
+# does in crates/lrupd/out.
 
 RT ?= rt
 PREFIX ?= /usr/local
 VERSION := $(shell cat VERSION)
 # The kit that proves the program, as named in README.
 KIT := $(shell sed -n 's/^`\(rattle-kit-[^`]*\)`.*/\1/p' README.md 2> /dev/null)
-PROGRAM := crates/lrupd/out/lrupd
-SOLVER := examples/solver/out/solver
-EXACT := tools/exact/out/exact
-TRIM := tools/trim/out/lrup-trim
-EXPLAIN := tools/explain/out/lrup-explain
-SOLVE := tools/solve/out/lrup-solve
-ENGINES = $(dir $(SOLVE))lrup-engines
+OUT ?= out
+BIN := $(OUT)/bin
+OBJECTS := $(OUT)/objects
+PROGRAM := $(BIN)/lrupd
+EXACT := $(BIN)/lrup-exact
+TRIM := $(BIN)/lrup-trim
+EXPLAIN := $(BIN)/lrup-explain
+SOLVE := $(BIN)/lrup-solve
+ENGINES := $(BIN)/lrup-engines
+SOLVER := $(BIN)/example-solver
 # For users to set, like CPPFLAGS, LDFLAGS and LDLIBS; flags that the sources need are in the rules.
 CFLAGS ?= -O2
 CXXFLAGS ?= -O2
 WARNINGS := -Wall -Wextra -Wshadow -Wconversion
-# Objects; those of lrup-solve have their own folder, since tests build it in several ways.
-OBJECTS := out/objects
-SOLVE_OBJECTS = $(SOLVE).objects
 # The filter's sources that lrup-solve, lrup-trim and lrup-explain contain, and those that are also
 # in the example solver.
 FILTER := $(filter-out tools/exact/main.c tools/exact/chain.c,$(wildcard tools/exact/*.c))
@@ -28,21 +32,16 @@ SHARED_WITH_SOLVER := $(addprefix tools/exact/,errors.c formula.c lists.c litera
 ALONE := $(filter-out $(wildcard tools/solve/mpi*.cpp),$(wildcard tools/solve/*.cpp))
 # Tests of programs build this first; 'make examples BUILT= PROGRAM=path' tests another program.
 BUILT ?= build
-# Debian's pytest runs the tests of programs, two more files at a time than there are cores, since
-# most tests wait now and then. With xdist's -n, runs of many files didn't end.
 PYTEST ?= pytest-3
-AT_ONCE := $(shell expr $$(nproc) + 2)
-rows_of = printf '%s\n' $(1) | xargs -P $(AT_ONCE) -I NAME $(PYTEST) --program $(PROGRAM) \
-	tests/test_NAME.py
 FORMULA ?= examples/bmc.cnf
 STREAMS ?= $(addprefix examples/bmc-four.,1 2 3 4)
 OPTIONS ?= --tries 1000000
 
 .PHONY: run build install built install-solve no-solve uninstall examples live checkpoints \
-	rounds demo solver exact trim explain solve solver-test filter-test trim-test building \
-	peers hol explain-test solve-test days neighbours sweep leaks instructions quotes \
-	promises pages test toolchain c-and-python libcadical libmd beside-it mpicxx help try deb \
-	dist quick edits packages warnings builds shown quotes-test pytest rows
+	rounds demo solver exact trim explain solve solve-mpi scripts tools solver-test filter-test \
+	trim-test building peers hol explain-test solve-test days neighbours sweep leaks \
+	instructions quotes promises pages test gate toolchain c-and-python libcadical libmd mpicxx \
+	help try deb dist quick edits packages warnings builds shown quotes-test pytest rows
 
 help:
 	@awk -f gate/help.awk $(firstword $(MAKEFILE_LIST))
@@ -66,8 +65,8 @@ run: build ## try: the same, proved first; try and run take FORMULA=path STREAMS
 	case $$status in 0|3|8) ;; *) exit $$status ;; esac
 
 # Prints a line for each crate once it is proved, and how much is left.
-build: toolchain ## build: prove the program, 15 to 26 minutes the first time, and leave it at crates/lrupd/out/lrupd
-	@python3 gate/build.py $(RT)
+build: toolchain ## build: prove the program, 15 to 26 minutes the first time, and leave it at out/bin/lrupd
+	@python3 gate/build.py $(RT) $(PROGRAM)
 
 # The filter is installed as lrup-exact. lrup-solve is installed only if CaDiCaL's library is there.
 # The manual pages get the version in their last line. Without the toolchain, as under sudo, the
@@ -96,7 +95,7 @@ install-solve: $(if $(shell $(CXX) -E -x c++ -include cadical.hpp /dev/null > /d
 	install -d "$(PLACE)/bin" "$(PLACE)/libexec/lrupd" "$(PLACE)/share/man/man1" && \
 	install -m 755 $(SOLVE) "$(PLACE)/bin/lrup-solve" && \
 	install -m 755 $(ENGINES) "$(PLACE)/libexec/lrupd/lrup-engines" && \
-	install -m 755 tools/solve/lrup-check "$(PLACE)/bin" && \
+	install -m 755 $(BIN)/lrup-check "$(PLACE)/bin" && \
 	install -m 644 docs/lrup-solve.1 docs/lrup-check.1 "$(PLACE)/share/man/man1"; }
 
 no-solve:
@@ -108,93 +107,81 @@ uninstall: ## use: remove what make install installs below PREFIX
 	"$(PLACE)/libexec/lrupd/lrup-engines"
 	@rmdir "$(PLACE)/libexec/lrupd" 2> /dev/null || :
 
-# Compares standard output, standard error and the status; also checks two groups of streams
-# separately.
-examples: $(BUILT) pytest ## check: compare the program's answers on the examples, and on a few hundred small runs, with the right ones
-	@$(call rows_of,program_answers program_groups)
-
-live: $(BUILT) pytest ## check: four recorded solvers, line by line through pipes, checked while they run
-	@$(call rows_of,program_live)
-
-checkpoints: $(BUILT) solver pytest ## check: what --checkpoint saves, lrup-chain, and streams that are cut into rounds
-	@$(call rows_of,program_checkpoints lrup_chain example_chain)
-
-rounds: $(BUILT) pytest ## check: runs in rounds: each end and fault, sizes, pipes, and what is saved
-	@$(call rows_of,program_rounds program_rounds_faults program_rounds_alone)
-
 demo: build solver ## try: four solvers that share clauses, checked while they run
 	@python3 examples/solver/demo.py $(PROGRAM) $(SOLVER)
 
 # An unverified example.
-solver: $(SOLVER) ## build: the demo's solver, at examples/solver/out/solver
+solver: $(SOLVER) ## build: the demo's solver, at out/bin/example-solver
 	@:
 
 # Unverified and untrusted.
-exact: $(EXACT) ## build: lrup-exact, which turns other solvers' proofs into streams, at tools/exact/out/exact
+exact: $(EXACT) ## build: lrup-exact, which turns other solvers' proofs into streams, at out/bin
 	@:
 
 # Unverified and untrusted.
-trim: $(TRIM) ## build: lrup-trim, which makes cores and smaller proofs of streams, at tools/trim/out
+trim: $(TRIM) ## build: lrup-trim, which makes cores and smaller proofs of streams, at out/bin
 	@:
 
 # Unverified and untrusted.
-explain: $(EXPLAIN) ## build: lrup-explain, which says why a line is bad, at tools/explain/out
+explain: $(EXPLAIN) ## build: lrup-explain, which says why a line is bad, at out/bin
 	@:
 
 # Unverified. The front, which starts lrupd and prints the answer, is trusted; lrup-engines isn't.
-solve: $(SOLVE) $(ENGINES) beside-it ## build: lrup-solve and lrup-check, at tools/solve/out; needs CaDiCaL's library
+# The front looks for the other programs in its own folder.
+solve: $(SOLVE) $(ENGINES) $(EXACT) $(TRIM) $(EXPLAIN) scripts ## build: lrup-solve and lrup-check, at out/bin; needs CaDiCaL's library
+	@:
 
 # lrup-engines-mpi isn't installed, since it depends on the MPI of the host that built it.
-solve-mpi: $(ENGINES)-mpi $(ENGINES) $(SOLVE) beside-it ## build: lrup-engines-mpi, for lrup-solve --mpi on several hosts; needs MPI, too
+solve-mpi: $(ENGINES)-mpi solve ## build: lrup-engines-mpi, for lrup-solve --mpi on several hosts; needs MPI, too
+	@:
 
-# Programs that the front looks for in its own folder, and lrup-check, which looks there for the
-# front.
-beside-it: $(EXACT) $(TRIM) $(EXPLAIN)
-	@mkdir -p $(dir $(SOLVE)) && ln -sfr $(PROGRAM) $(dir $(SOLVE))lrupd && \
-	ln -sfr $(EXACT) $(dir $(SOLVE))lrup-exact && ln -sfr $(TRIM) $(EXPLAIN) $(dir $(SOLVE)) && \
-	install -m 755 tools/solve/lrup-check $(dir $(SOLVE))
+# What the tests of programs run, besides lrup-solve, which they build by themselves.
+tools: exact trim explain solver scripts
+
+scripts: $(BIN)/lrup-check $(BIN)/lrup-chain
+$(BIN)/lrup-check: tools/solve/lrup-check
+	@mkdir -p $(BIN) && install -m 755 $< $@
+$(BIN)/lrup-chain: tools/lrup-chain
+	@mkdir -p $(BIN) && install -m 755 $< $@
 
 # A source is compiled after a change of the source, of a header that it includes, or of the command
 # that compiles it. Programs are replaced, not overwritten, since they may be running.
-in_order = $(patsubst %,$(1)/%.o,$(basename $(2)))
+in_order = $(patsubst %,$(OBJECTS)/%.o,$(basename $(1)))
 VERSIONED = -DVERSION='"$(VERSION)"'
 COMPILE_C = $(CC) -std=c11 $(WARNINGS) $(VERSIONED) -I $(OBJECTS) $(CPPFLAGS) $(CFLAGS)
-COMPILE_CXX = -std=c++17 $(WARNINGS) $(VERSIONED) -DKIT='"$(KIT)"' -I $(SOLVE_OBJECTS) \
+COMPILE_CXX = -std=c++17 $(WARNINGS) $(VERSIONED) -DKIT='"$(KIT)"' -I $(OBJECTS) \
 	$(CPPFLAGS) $(CXXFLAGS)
 LINK = mkdir -p $(dir $@) && \
 	$(1) $(2) $(LDFLAGS) -o $@.new $(filter %.o,$^) $(3) $(LDLIBS) && mv $@.new $@
 
-$(SOLVER): $(call in_order,$(OBJECTS),$(wildcard examples/solver/*.c) $(SHARED_WITH_SOLVER))
+$(SOLVER): $(call in_order,$(wildcard examples/solver/*.c) $(SHARED_WITH_SOLVER))
 	@$(call LINK,$(CC),$(CFLAGS) -pthread)
-$(EXACT): $(call in_order,$(OBJECTS),$(wildcard tools/exact/*.c))
+$(EXACT): $(call in_order,$(wildcard tools/exact/*.c))
 	@$(call LINK,$(CC),$(CFLAGS))
-$(TRIM): $(call in_order,$(OBJECTS),$(wildcard tools/trim/*.c) $(FILTER))
+$(TRIM): $(call in_order,$(wildcard tools/trim/*.c) $(FILTER))
 	@$(call LINK,$(CC),$(CFLAGS),-lmd)
-$(EXPLAIN): $(call in_order,$(OBJECTS),$(wildcard tools/explain/*.c) tools/trim/lines.c $(FILTER))
+$(EXPLAIN): $(call in_order,$(wildcard tools/explain/*.c) tools/trim/lines.c $(FILTER))
 	@$(call LINK,$(CC),$(CFLAGS),-lmd)
-$(SOLVE): $(call in_order,$(SOLVE_OBJECTS),$(wildcard tools/solve/front/*.c))
+$(SOLVE): $(call in_order,$(wildcard tools/solve/front/*.c))
 	@$(call LINK,$(CC),$(CFLAGS))
-$(ENGINES): $(call in_order,$(SOLVE_OBJECTS),$(ALONE) $(wildcard tools/solve/*.c) $(FILTER))
+$(ENGINES): $(call in_order,$(ALONE) $(wildcard tools/solve/*.c) $(FILTER))
 	@$(call LINK,$(CXX),$(CXXFLAGS) -pthread,-lcadical -lmd)
 WITH_MPI := $(filter-out tools/solve/alone.cpp,$(wildcard tools/solve/*.cpp tools/solve/*.c))
-$(ENGINES)-mpi: $(call in_order,$(SOLVE_OBJECTS),$(WITH_MPI) $(FILTER))
+$(ENGINES)-mpi: $(call in_order,$(WITH_MPI) $(FILTER))
 	@$(call LINK,OMPI_CXX="$(CXX)" mpicxx,$(CXXFLAGS) -pthread,-lcadical -lmd)
 
 $(OBJECTS)/tools/trim/lines.o: | libmd
 $(OBJECTS)/%.o: %.c $(OBJECTS)/flags
 	@mkdir -p $(dir $@) && $(COMPILE_C) -I tools/exact -MMD -MP -c -o $@ $<
-$(SOLVE_OBJECTS)/%.o: %.c $(SOLVE_OBJECTS)/flags
-	@mkdir -p $(dir $@) && $(COMPILE_C) -MMD -MP -c -o $@ $<
-$(SOLVE_OBJECTS)/tools/solve/mpi_%.o: tools/solve/mpi_%.cpp $(SOLVE_OBJECTS)/flags \
+$(OBJECTS)/tools/solve/mpi_%.o: tools/solve/mpi_%.cpp $(OBJECTS)/flags \
 	| mpicxx libcadical libmd
 	@mkdir -p $(dir $@) && OMPI_CXX="$(CXX)" mpicxx $(COMPILE_CXX) -MMD -MP -c -o $@ $<
-$(SOLVE_OBJECTS)/%.o: %.cpp $(SOLVE_OBJECTS)/flags | libcadical libmd
+$(OBJECTS)/%.o: %.cpp $(OBJECTS)/flags | libcadical libmd
 	@mkdir -p $(dir $@) && $(CXX) $(COMPILE_CXX) -MMD -MP -c -o $@ $<
 
 # What --help prints, from the manual pages.
-HELPS = $(patsubst %,$(OBJECTS)/lrup-%.help.h,exact trim explain)
-HELPS_OF_SOLVE = $(patsubst %,$(SOLVE_OBJECTS)/lrup-%.help.h,solve check)
-$(HELPS) $(HELPS_OF_SOLVE): $(wildcard docs/lrup-*.1) tools/help.awk
+HELPS = $(patsubst %,$(OBJECTS)/lrup-%.help.h,exact trim explain solve check)
+$(HELPS): $(wildcard docs/lrup-*.1) tools/help.awk
 	@mkdir -p $(dir $@) && \
 	awk -v program=$(patsubst %.help.h,%,$(notdir $@)) -f tools/help.awk $(filter %.1,$^) > $@
 $(patsubst %,$(OBJECTS)/tools/%/main.o,exact trim explain): $(HELPS)
@@ -202,21 +189,21 @@ FAULTS = $(OBJECTS)/lrup-explain.faults.h
 $(FAULTS): crates/stream_check/specs/Faults.antt tools/faults.awk
 	@mkdir -p $(dir $@) && awk -f $(filter %.awk,$^) $< > $@
 $(OBJECTS)/tools/explain/tell.o: $(FAULTS)
-$(SOLVE_OBJECTS)/tools/solve/options.o: $(HELPS_OF_SOLVE)
+$(OBJECTS)/tools/solve/options.o: $(HELPS)
 
 # Functions that the two scripts for checking a record share.
-$(SOLVE_OBJECTS)/packed.sh.h: tools/lrup-chain
+$(OBJECTS)/packed.sh.h: tools/lrup-chain
 	@mkdir -p $(dir $@) && { echo 'R"sh('; \
 	sed -n '/^stream() {/,/^}/p; /^unpack() {/,/^}/p' $<; echo ')sh"'; } > $@
-$(SOLVE_OBJECTS)/tools/solve/rounds.o: $(SOLVE_OBJECTS)/packed.sh.h
+$(OBJECTS)/tools/solve/rounds.o: $(OBJECTS)/packed.sh.h
 
 # Files with the compilers' commands, rewritten only when these change.
-$(OBJECTS)/flags $(SOLVE_OBJECTS)/flags: FORCE | c-and-python
+$(OBJECTS)/flags: FORCE | c-and-python
 	@mkdir -p $(dir $@) && \
 	echo '$(subst ','\'',$(COMPILE_C) $(CXX) $(COMPILE_CXX) $(LDFLAGS) $(LDLIBS))' > $@.new && \
 	{ cmp -s $@.new $@ && rm $@.new || mv $@.new $@; }
 FORCE:
--include $(wildcard $(OBJECTS)/*/*/*.d $(SOLVE_OBJECTS)/*/*/*.d $(SOLVE_OBJECTS)/*/*/*/*.d)
+-include $(wildcard $(OBJECTS)/*/*/*.d $(OBJECTS)/*/*/*/*.d)
 
 # `make warnings` also compiles with clang if that is installed.
 IN_C := $(addprefix tools/,exact trim explain) examples/solver
@@ -230,44 +217,29 @@ warnings: c-and-python libmd $(HELPS) $(FAULTS) ## check: C compiles without a w
 	for file in $(C_HEADERS); do \
 	$$compiler $(STRICT) -D_POSIX_C_SOURCE=200809L -include $$file /dev/null || exit 1; done; done
 
-quotes-test: pytest ## check: see that wrong quotes on the pages are refused
-	@$(call rows_of,quotes)
-
-builds: pytest ## check: C and C++ are compiled with the given flags, and again after a change
-	@$(call rows_of,builds)
-
-shown: $(BUILT) solver exact trim explain pytest ## check: run the commands that the pages show, and compare their output
-	@$(call rows_of,shown)
-
-solver-test: $(BUILT) solver pytest ## check: streams of one to eight example solvers, and of some that are killed
-	@$(call rows_of,example_solver)
-
-FILTER_TESTS := filter_rounds filter_mutants filter_chains filter_streams filter_lines \
-	filter_solvers
-.PHONY: $(FILTER_TESTS)
-filter-test: $(BUILT) exact pytest ## check: the filter, also in rounds, with solvers on the PATH, and on 10,000 mutated proofs
-	@$(call rows_of,$(FILTER_TESTS))
-
-$(FILTER_TESTS): $(BUILT) exact pytest
-	@$(call rows_of,$@)
-
-trim-test: $(BUILT) solver exact trim pytest ## check: lrup-trim, on 300 random runs in rounds, and on garbled streams
-	@$(call rows_of,trim)
-
-explain-test: $(BUILT) solver explain pytest ## check: lrup-explain against lrupd, on 2,000 faulty streams and 1,000 mutated proofs
-	@$(call rows_of,explain)
-
-# These tests are skipped without CaDiCaL's library, and those of --mpi also without MPI.
-SOLVE_TESTS := lrup_solve_rounds lrup_solve lrup_solve_inputs lrup_solve_folders \
-	lrup_solve_solvers lrup_check lrup_solve_kept lrup_solve_front lrup_solve_trusted \
-	lrup_solve_hostile lrup_solve_kills lrup_solve_cubes lrup_solve_resume lrup_solve_days \
-	lrup_solve_mpi
-.PHONY: $(SOLVE_TESTS)
-solve-test: $(BUILT) exact pytest ## check: lrup-solve, on 300 random formulas, and with everything that may fail
-	@$(call rows_of,$(SOLVE_TESTS))
-
-$(SOLVE_TESTS): $(BUILT) exact pytest
-	@$(call rows_of,$@)
+# Tests of programs, by what they test. Tests of lrup-solve are skipped without CaDiCaL's library,
+# those of --mpi also without MPI, and those of leaks and instructions without valgrind.
+examples: TESTS = program_answers program_groups ## check: compare the program's answers on the examples, and on a few hundred small runs, with the right ones
+live: TESTS = program_live ## check: four recorded solvers, line by line through pipes, checked while they run
+checkpoints: TESTS = program_checkpoints lrup_chain example_chain ## check: what --checkpoint saves, lrup-chain, and streams that are cut into rounds
+rounds: TESTS = program_rounds program_rounds_faults program_rounds_alone ## check: runs in rounds: each end and fault, sizes, pipes, and what is saved
+neighbours: TESTS = program_neighbours ## check: hostile streams never change the report on a good proof
+sweep: TESTS = program_refusals ## check: runs with each allocation, read, write and thread refused in turn
+leaks: TESTS = program_leaks ## measure: memory leaks, by valgrind
+instructions: TESTS = program_instructions ## measure: how many instructions lines take, by valgrind, against the recorded figures
+instructions: MORE = -rP
+solver-test: TESTS = example_solver ## check: streams of one to eight example solvers, and of some that are killed
+filter-test: TESTS = filter_rounds filter_mutants filter_chains filter_streams filter_lines filter_solvers ## check: the filter, also in rounds, with solvers on the PATH, and on 10,000 mutated proofs
+trim-test: TESTS = trim ## check: lrup-trim, on 300 random runs in rounds, and on garbled streams
+explain-test: TESTS = explain ## check: lrup-explain against lrupd, on 2,000 faulty streams and 1,000 mutated proofs
+solve-test: TESTS = $(patsubst tests/test_%.py,%,$(wildcard tests/test_lrup_solve*.py)) lrup_check ## check: lrup-solve, on 300 random formulas, and with everything that may fail
+shown: TESTS = shown ## check: run the commands that the pages show, and compare their output
+quotes-test: TESTS = quotes ## check: see that wrong quotes on the pages are refused
+builds: TESTS = builds ## check: C and C++ are compiled with the given flags, and again after a change
+rows: ## check: all tests of programs, without proofs but for the program's own; or those of TESTS="trim explain"
+examples live checkpoints rounds neighbours sweep leaks instructions solver-test filter-test \
+trim-test explain-test solve-test shown quotes-test builds rows: $(BUILT) tools pytest
+	@python3 gate/tests.py --program $(PROGRAM) --pytest '$(PYTEST)' --rt '$(RT)' $(TESTS) -- $(MORE)
 
 # Uses larger formulas than the gate does. SEED determines the formulas, and is printed.
 MINUTES ?= 60
@@ -275,19 +247,6 @@ SEED ?= $(shell date +%s)
 days: $(BUILT) exact pytest ## check: kill processes of lrup-solve for MINUTES=60, and resume from what they saved
 	@echo "seed $(SEED)" && $(PYTEST) tests/test_lrup_solve_days.py -vv --program $(PROGRAM) \
 	--seed $(SEED) --minutes $(MINUTES)
-
-neighbours: $(BUILT) pytest ## check: hostile streams never change the report on a good proof
-	@$(call rows_of,program_neighbours)
-
-sweep: $(BUILT) pytest ## check: runs with each allocation, read, write and thread refused in turn
-	@$(call rows_of,program_refusals) --rt $(RT)
-
-# Without valgrind, the tests of make leaks and make instructions are skipped.
-leaks: $(BUILT) pytest ## measure: memory leaks, by valgrind
-	@$(call rows_of,program_leaks)
-
-instructions: $(BUILT) pytest ## measure: how many instructions lines take, by valgrind, against the recorded figures
-	@$(call rows_of,program_instructions) -rP
 
 building: toolchain ## measure: the first build, crate by crate, in a clone of HEAD; on a quiet machine without kept proofs
 	@python3 bench/first_build.py $(RT)
@@ -337,31 +296,19 @@ edits: toolchain ## check: try the edits that the gate leaves out, of CRATE=name
 	@sh gate/edits.sh $(RT) $(CRATE)
 
 # Tests whose packages are missing are skipped, and say so; if CI is set, they fail.
-packages: ## check: install, as root, the Debian packages that tests need
+packages: ## check: install the Debian packages that tests need, as root or by sudo
 	@sh gate/packages.sh
 
-# The whole gate: the pages; then rt ci, which proves everything from nothing, tries the edits, runs
-# the crates' tests, and builds the program with two compilers; then the tests of programs,
-# the slowest files first, without those tests of --mpi that wait long. The last line is rt's own,
-# 'N passed, M failed'.
-ROWS := filter_mutants program_refusals lrup_solve_rounds lrup_solve lrup_solve_kept \
-	lrup_solve_solvers filter_chains lrup_solve_resume lrup_solve_hostile explain trim \
-	lrup_solve_cubes filter_rounds lrup_solve_mpi lrup_solve_front lrup_solve_days \
-	lrup_solve_inputs lrup_solve_folders lrup_solve_kills lrup_solve_trusted lrup_check \
-	builds program_leaks program_instructions filter_streams filter_lines filter_solvers \
-	program_checkpoints lrup_chain example_chain program_rounds program_rounds_faults \
-	program_rounds_alone program_answers program_groups example_solver program_neighbours \
-	program_live shown quotes
-test: SHELL := /bin/bash
-test: toolchain pytest pages warnings solver exact trim explain ## check: the gate, 25 to 100 minutes: every proof, edit and test; has to pass before a push
-	@rm -f $(dir $(SOLVE))lrupd; set -o pipefail; log=$$(mktemp); trap 'rm -f "$$log"' EXIT; SECONDS=0; \
-	$(RT) ci | tee "$$log" && proved=$$SECONDS && $(test_rows) && \
-	echo "rt ci took $$proved seconds, and the tests of programs $$((SECONDS - proved))" && \
-	tail -n 1 "$$log"
+# Each says what it does while it runs. The last line is 'N passed, M failed'.
+test: toolchain c-and-python ## check: prove the program, and run all tests of programs; installs the packages that they lack
+	@sh gate/packages.sh
+	@python3 gate/tests.py --program $(PROGRAM) --pytest '$(PYTEST)' --rt '$(RT)' --after build
 
-test_rows = $(call rows_of,$(ROWS)) --rt $(RT) -m "not long"
-rows: $(BUILT) solver exact trim explain pytest
-	@$(test_rows)
+# What has to pass before a push: `rt ci` proves everything from nothing, tries the edits, runs the
+# crates' tests, and builds the program with two compilers.
+gate: toolchain c-and-python ## check: what make test does, and all other proofs, edits and tests of crates
+	@sh gate/packages.sh
+	@python3 gate/tests.py --program $(PROGRAM) --pytest '$(PYTEST)' --rt '$(RT)' --after ci
 
 toolchain:
 	@command -v $(RT) > /dev/null || \
@@ -369,7 +316,7 @@ toolchain:
 
 c-and-python:
 	@for command in $(firstword $(CC)) python3; do command -v $$command > /dev/null || \
-	{ echo "make demo and make test need a C compiler and Python 3: no command '$$command' is on the PATH"; exit 1; }; done
+	{ echo "lrupd's tools and tests need a C compiler and Python 3: no command '$$command' is on the PATH"; exit 1; }; done
 
 pytest: c-and-python
 	@command -v $(firstword $(PYTEST)) > /dev/null || \

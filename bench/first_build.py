@@ -1,5 +1,5 @@
 #!/usr/bin/env python3
-"""Measures the first build, and writes bench/building.md.
+"""Measures the first build, and writes bench/building.md and the seconds of gate/seconds.txt.
 
     python3 bench/first_build.py RT
 
@@ -19,6 +19,7 @@ from pathlib import Path
 
 PAGE = Path(__file__).with_name("building.md")
 ROOT = PAGE.parent.parent
+SECONDS = ROOT / "gate" / "seconds.txt"
 
 
 def clock(seconds):
@@ -35,13 +36,15 @@ def main():
     with tempfile.TemporaryDirectory() as clone:
         subprocess.run(["git", "clone", "-q", ROOT, clone], check=True)
         began = time.monotonic()
-        words = [sys.executable, "gate/build.py", sys.argv[1]]
+        words = [sys.executable, "gate/build.py", sys.argv[1], "out/bin/lrupd"]
         printed = subprocess.run(words, cwd=clone, check=True, stdout=subprocess.PIPE,
                                  text=True).stdout
         took = time.monotonic() - began
     rows = re.findall(r"^\d+ of \d+: (\w+), ([\d:]+), processor (\d+) s", printed, re.M)
     usage = resource.getrusage(resource.RUSAGE_CHILDREN)
     table = "".join(f"| `{name}` | {by_clock} | {seconds} |\n" for name, by_clock, seconds in rows)
+    SECONDS.write_text(re.sub(r"^crate .*\n", "", SECONDS.read_text(), flags=re.M) + "".join(
+        f"crate {name} {seconds}\n" for name, _, seconds in rows))
     first, _, rest = PAGE.read_text().partition("## Before")
     first = first[:first.index("## Now")]
     PAGE.write_text(f"""{first}## Now

@@ -1,15 +1,17 @@
 #!/usr/bin/env python3
 """Proves the program and all libraries that it uses, independent crates in parallel.
 
-    python3 gate/build.py RT
+    python3 gate/build.py RT PLACE
 
 rt allows one run at a time in a crate and those below it, and nearly all crates use lrup_model. So
 each library is proved in a lane: a folder with copies of its sources and of the libraries below it;
 meanwhile the library's out/ is there, too. Crates with the longest path to the program, by SECONDS,
 come first, and the others get a smaller share of the cores. After an interruption, the next build
-keeps what was proved. At the end `rt run` proves and runs the program. It recognizes proved
-libraries by checksums, and proves all others again, so no proof depends on this script."""
+keeps what was proved. At the end `rt run` proves and runs the program, and a copy of it is put
+at PLACE. rt recognizes proved libraries by checksums, and proves all others again, so no proof
+depends on this script."""
 import fcntl
+import filecmp
 import os
 import re
 import resource
@@ -40,7 +42,7 @@ USES = {name: [word for word in line.split() if word in LINES] for name, line in
 # How many processor seconds it takes to prove a crate from nothing, as measured by `make building`.
 # Elapsed time says less, since it also depends on what else runs.
 SECONDS = {name: int(seconds) for name, seconds in re.findall(
-    r"^\| `(\w+)` \| [\d:]+ \| (\d+) \|$", (ROOT / "bench/building.md").read_text(), re.M)}
+    r"^crate (\w+) (\d+)$", (ROOT / "gate/seconds.txt").read_text(), re.M)}
 
 
 def below(name):
@@ -219,9 +221,18 @@ def prove_program(rt, were_libraries):
     return ran.returncode, ran.stdout
 
 
+def put_program(place):
+    """Copies the program to its place, where it may be running, unless it is there."""
+    built = CRATES / PROGRAM / "out" / PROGRAM
+    if not place.is_file() or not filecmp.cmp(built, place, shallow=False):
+        place.parent.mkdir(parents=True, exist_ok=True)
+        shutil.copy2(built, f"{place}.new")
+        os.replace(f"{place}.new", place)
+
+
 def main():
     signal.signal(signal.SIGTERM, lambda *_: sys.exit(143))
-    rt = sys.argv[1]
+    rt, place = sys.argv[1], ROOT / sys.argv[2]
     young = {name for name in ALL - {PROGRAM} if is_young(name)}
     status, said = prove_libraries(rt, set(young))
     if not status:
@@ -230,9 +241,11 @@ def main():
     LOG.write_text(said)
     if status:
         sys.exit(re.sub(r".*: proved\n", "", said))
+    put_program(place)
 
 
-try:
-    main()
-except KeyboardInterrupt:
-    sys.exit(130)
+if __name__ == "__main__":
+    try:
+        main()
+    except KeyboardInterrupt:
+        sys.exit(130)

@@ -11,7 +11,7 @@ BEGIN {
 }
 END {
     print "the first hour, which CONTRIBUTING.md describes:"
-    print "  make build         prove everything once"
+    print "  make build         prove the program once"
     print "  rt check           in crates/NAME, after each change: prove what has changed"
     print "  rt try --test      in crates/NAME_tests: run tests before they are proved"
     print "  make quick CRATE=NAME    check the crate, its tests and the pages, in two minutes"

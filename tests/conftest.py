@@ -11,8 +11,8 @@ import harness
 
 def pytest_addoption(parser: pytest.Parser) -> None:
     given = parser.getgroup("lrupd")
-    program = harness.ROOT / "crates" / "lrupd" / "out" / "lrupd"
-    given.addoption("--program", default=str(program), help="the lrupd that is tested")
+    given.addoption("--program", default=str(harness.BIN / "lrupd"),
+                    help="the lrupd that is tested")
     given.addoption("--rt", help="Rattle's command, for the crates' tests if they aren't built")
     given.addoption("--flags", default="-O2", help="flags for lrup-solve's compilers, such as "
                     "--flags='-O1 -g -fsanitize=thread'")

@@ -29,14 +29,17 @@ import pytest
 TESTS = Path(__file__).resolve().parent
 ROOT = TESTS.parent
 EXAMPLES = ROOT / "examples"
-SOLVER, GENERATOR = EXAMPLES / "solver" / "out" / "solver", EXAMPLES / "solver" / "generate.py"
+GENERATOR = EXAMPLES / "solver" / "generate.py"
 LRUP_CHAIN = ROOT / "tools" / "lrup-chain"
 EXACT = ROOT / "tools" / "exact"
-FILTER, SANITIZED = EXACT / "out" / "exact", EXACT / "out" / "exact-sanitized"
-TRIM = ROOT / "tools" / "trim" / "out" / "lrup-trim"
-SANITIZED_TRIM = TRIM.with_name("lrup-trim-sanitized")
-EXPLAIN = ROOT / "tools" / "explain" / "out" / "lrup-explain"
-SANITIZED_EXPLAIN = EXPLAIN.with_name("lrup-explain-sanitized")
+# `make tools` builds programs into BIN. What tests build, and nobody else uses, is in BUILDS.
+OUT = ROOT / "out"
+BIN, BUILDS = OUT / "bin", OUT / "tests"
+SOLVER, FILTER = BIN / "example-solver", BIN / "lrup-exact"
+TRIM, EXPLAIN = BIN / "lrup-trim", BIN / "lrup-explain"
+SANITIZED = BUILDS / "lrup-exact-sanitized"
+SANITIZED_TRIM = BUILDS / "lrup-trim-sanitized"
+SANITIZED_EXPLAIN = BUILDS / "lrup-explain-sanitized"
 # The options of conftest.py. COUNT is the number of random rows; each file has its own default.
 PROGRAM, FLAGS = "", "-O2"
 COUNT: Optional[int] = None
@@ -294,7 +297,7 @@ def sanitizer() -> List[str]:
 def for_tests(program: Path, sources: Iterable[Path], *flags: str) -> Path:
     """A build that checks its invariants, and reports undefined behaviour if the compiler supports
     that. It is made if it is out of date, or was made by another command."""
-    sources, helps = sorted(sources), ROOT / "out" / "objects"
+    sources, helps = sorted(sources), OUT / "objects"
     words = ["-DCHECKED", "-I", str(helps), *flags]
     words += SANITIZE if sanitizer() else ["-std=c11", "-O1"]
     folders = {helps, *(path.parent for path in sources)}
@@ -397,10 +400,10 @@ def with_memory(function: Callable[..., None], *arguments: Any) -> None:
 # Rows.
 
 
-def parametrized(rows: Iterable[Row]) -> Callable[[Row, Path], None]:
-    """A test that pytest runs for each row. Rows that take gigabytes don't run side by side."""
-    group = {with_memory: [pytest.mark.xdist_group("memory")]}
-    params = [pytest.param(row, id=row[0], marks=group.get(row[1], [])) for row in rows]
+def parametrized(rows: Iterable[Row], marks: Mapping[Callable[..., None], pytest.MarkDecorator]
+                 = {}) -> Callable[[Row, Path], None]:
+    """A test that pytest runs for each row, with the mark of the row's function."""
+    params = [pytest.param(row, id=row[0], marks=marks.get(row[1], [])) for row in rows]
 
     @pytest.mark.parametrize("row", params)
     def test(row: Row, work: Path) -> None:

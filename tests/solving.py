@@ -16,13 +16,14 @@ from typing import Any, Dict, List, Mapping, Optional, Sequence, Tuple
 
 import pytest
 
-from harness import (FLAGS, PROGRAM, ROOT, VERDICTS, Ran, alone, dimacs, is_newer, lacking,
+from harness import (BUILDS, FLAGS, PROGRAM, ROOT, VERDICTS, Ran, alone, dimacs, is_newer, lacking,
                      random_clauses, run, until, want, written)
 from proof_forms import read_formula
 
 COMPILERS = [os.environ.get(name, "") for name in ("CC", "CXX")]
-OUT = ROOT / "tools" / "solve" / "out" / re.sub(r"\W+", "", "".join(["tested", *COMPILERS, FLAGS]))
-SOLVE, TESTED = OUT / "lrup-solve", OUT / "tested" / "lrup-solve"
+BUILD = BUILDS / re.sub(r"\W+", "", "".join(["solve", *COMPILERS, FLAGS]))
+TESTED_BUILD = BUILD.with_name(f"{BUILD.name}-tested")
+SOLVE, TESTED = BUILD / "bin" / "lrup-solve", TESTED_BUILD / "bin" / "lrup-solve"
 EARLY = "elimint=10 probeint=10 subsumeint=10 compactint=10 reduceint=20 rephase=1 rephaseint=20"
 ELIMINATING = "elimint=1 compact=0"
 FRONT, READING = "lrup-solve", "its reading"      # the front, and the lrupd that reads the formula
@@ -253,16 +254,14 @@ def is_built(path: Path) -> bool:
 def built(target: str, for_tests: bool) -> None:
     """One worker builds what is out of date, with `make`. If a package is missing, rows are
     skipped."""
-    TESTED.parent.mkdir(parents=True, exist_ok=True)
-    with alone(OUT / "lock"):
-        for path, flags in ((SOLVE, FLAGS),
-                            (TESTED, FLAGS + " -DSOLVE_TESTS -DCHECKED"))[:1 + for_tests]:
-            if is_built(path.with_name("lrup-engines" if target == "solve"
-                                       else "lrup-engines-mpi")):
+    with alone(BUILD / "lock"):
+        for folder, flags in ((BUILD, FLAGS), (TESTED_BUILD, FLAGS + " -DSOLVE_TESTS -DCHECKED")
+                              )[:1 + for_tests]:
+            if is_built(folder / "bin" / ("lrup-engines" if target == "solve"
+                                          else "lrup-engines-mpi")):
                 continue
-            out, err, status = run(["make", "-s", "-C", ROOT, target,
-                                    f"SOLVE={path.relative_to(ROOT)}", f"CFLAGS={flags}",
-                                    f"CXXFLAGS={flags}"], limit=600)
+            out, err, status = run(["make", "-s", "-C", ROOT, target, f"OUT={folder}",
+                                    f"CFLAGS={flags}", f"CXXFLAGS={flags}"], limit=600)
             if status and re.search("libcadical-dev|libmd-dev|libopenmpi-dev", out + err):
                 lacking(f"all of lrup-{target}: {(out + err).splitlines()[0]}")
             assert not status and not re.search(r"warning: .*\[-W", err), out + err

@@ -10,9 +10,8 @@ import shutil
 from pathlib import Path
 from typing import Dict, List, Sequence, Set
 
-import pytest
-
-from harness import FILTER, LIMIT, ROOT, Row, needs, parametrized, run, want, written
+from harness import (FILTER, LIMIT, ROOT, Ran, Row, alone, needs, parametrized, run, want, written)
+from solving import BUILD
 
 C = {"CC": "one-cc", "CFLAGS": "-DFLAG_OF_C", "CPPFLAGS": "-DFLAG_OF_BOTH", "LDFLAGS": "-Lflag",
      "LDLIBS": "-lflag"}
@@ -30,9 +29,7 @@ def clean(more: Dict[str, str]) -> Dict[str, str]:
 
 def commands(target: str, words: Sequence[str], env: Dict[str, str]) -> List[List[str]]:
     """The compilers' commands that make would run if nothing were built."""
-    places = ["OBJECTS=out/none", "SOLVER=out/none/solver", "EXACT=out/none/exact",
-              "TRIM=out/none/trim", "SOLVE=out/none/solve"]
-    done = run(["make", "-n", "-C", ROOT, target, *places, *words], env=clean(env))
+    done = run(["make", "-n", "-C", ROOT, target, "OUT=out/none", *words], env=clean(env))
     want((done.err, done.status), ("", 0), "make's output")
     found = [re.split(r" && |; ", line) for line in done.out.splitlines()]
     return [words for line in found for part in line for words in [part.split()]
@@ -66,7 +63,7 @@ def usual(target: str, work: Path) -> None:
 def compiled(work: Path, words: Sequence[str] = ()) -> Set[str]:
     """The sources that make has compiled, and the program if it was linked."""
     files = lambda: {path: path.stat().st_mtime_ns
-                     for path in [*work.rglob("*.o"), *work.rglob("exact/out/exact")]}
+                     for path in [*work.rglob("*.o"), *work.rglob("bin/lrup-exact")]}
     before = files()
     done = run(["make", "-s", "-j2", "exact", "CFLAGS=-O0", *words], cwd=work, env=clean({}))
     want((done.out, done.err, done.status), ("", "", 0), "make's output")
@@ -86,26 +83,33 @@ def including(header: str, folder: Path) -> Set[str]:
 
 def again(work: Path) -> None:
     folder = work / "tools" / "exact"
-    shutil.copytree(ROOT / "tools" / "exact", folder, ignore=shutil.ignore_patterns("out"))
+    shutil.copytree(ROOT / "tools" / "exact", folder)
     (work / "docs").mkdir()
     for name in ("Makefile", "VERSION", "docs/lrup-exact.1", "tools/help.awk"):
         shutil.copy(ROOT / name, work / name)
-    every = {path.stem for path in folder.glob("*.c")} | {"exact"}
+    every = {path.stem for path in folder.glob("*.c")} | {"lrup-exact"}
     want((compiled(work), compiled(work)), (every, set()), "the files compiled at first, and then")
     for name in ("hints.h", "errors.h", "lemmas.h"):
         (folder / name).touch()
-        want(compiled(work), including(name, folder) | {"exact"},
+        want(compiled(work), including(name, folder) | {"lrup-exact"},
              f"the files recompiled after a change of {name}")
     (folder / "words.c").touch()
-    want(compiled(work), {"words", "exact"}, "the files recompiled after a change of a source")
+    want(compiled(work), {"words", "lrup-exact"}, "the files recompiled after a change of a source")
     (folder / "lemmas.h").rename(folder / "other.h")
     for path in folder.glob("*.c"):
         path.write_text(path.read_text().replace('"lemmas.h"', '"other.h"'))
     want(compiled(work), every, "the files compiled after a header is renamed")
     want((compiled(work, ["CPPFLAGS=-DOTHER"]), compiled(work, ["CPPFLAGS=-DOTHER"])),
          (every, set()), "the files recompiled with other flags")
-    want(compiled(work, ["CPPFLAGS=-DOTHER", "LDLIBS=-lm"]) >= {"exact"}, True,
+    want(compiled(work, ["CPPFLAGS=-DOTHER", "LDLIBS=-lm"]) >= {"lrup-exact"}, True,
          "whether other libraries are linked")
+
+
+def in_its_build(words: Sequence[object]) -> Ran:
+    """Runs make, without the toolchain, over the build that the tests of lrup-solve use."""
+    with alone(BUILD / "lock"):
+        return run(["make", "-s", "-C", ROOT, "RT=none", f"OUT={BUILD}", "PREFIX=/usr", *words],
+                   limit=2 * LIMIT, env=clean({}))
 
 
 def installed(work: Path) -> None:
@@ -114,9 +118,7 @@ def installed(work: Path) -> None:
     nothing. A missing program is reported."""
     program = written("#!/bin/sh\necho 'usage: lrupd [--lines N] [--help]'\n", work, "lrupd")
     program.chmod(0o755)
-    words = ["RT=none", f"DESTDIR={work}/a place", "PREFIX=/usr"]
-    make = lambda *more: run(["make", "-s", "-C", ROOT, *more, *words],
-                             limit=2 * LIMIT, env=clean({}))
+    make = lambda *more: in_its_build([*more, f"DESTDIR={work}/a place"])
     want((make("-n", "install", f"PROGRAM={program}").status, (work / "a place").exists()),
          (0, False), "the status of make -n install, and whether it makes the folder")
     done = make("install", f"PROGRAM={program}")
@@ -146,8 +148,7 @@ def packaged(work: Path) -> None:
     for command in ("dpkg-deb", "dpkg-shlibdeps"):
         needs(command)
     place = work / "package"
-    words = ["RT=none", f"PROGRAM={FILTER}", f"DESTDIR={place}", "PREFIX=/usr"]
-    done = run(["make", "-s", "-C", ROOT, "install", *words], limit=2 * LIMIT, env=clean({}))
+    done = in_its_build(["install", f"PROGRAM={FILTER}", f"DESTDIR={place}"])
     want((done.err, done.status), ("", 0), "the output of make install")
     want(run(["sh", ROOT / "tools" / "deb.sh", place, "1"]).status, 0, "the status of deb.sh")
     pages = [*(place / "usr/share/doc/lrupd").glob("**/*.md")]
@@ -168,5 +169,4 @@ def rows() -> List[Row]:
     return found
 
 
-pytestmark = pytest.mark.xdist_group("builds")     # several makes would write the same files
 test_row = parametrized(rows())

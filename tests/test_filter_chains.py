@@ -17,9 +17,9 @@ import sys
 from pathlib import Path
 from typing import Any, Callable, Iterable, List, Sequence, Tuple, Union
 
-from harness import (EXACT, FILTER, ROOT, SANITIZING, TESTS, Row, dimacs, example, for_tests, needs,
-                     parametrized, random_clauses, run, started, unwatched, want, watched_ends,
-                     written)
+from harness import (BUILDS, EXACT, FILTER, ROOT, SANITIZING, TESTS, Row, dimacs, example,
+                     for_tests, needs, parametrized, random_clauses, run, started, unwatched, want,
+                     watched_ends, written)
 from lrat import lrat_fault
 from proof_forms import FORMS, read_formula, read_steps
 from solving import PROGRAM, built, solve, want_answer
@@ -211,7 +211,7 @@ def without_identities(work: Path) -> None:
 
 @functools.lru_cache(maxsize=None)
 def short_lines() -> Path:
-    return for_tests(EXACT / "out" / "exact-short-lines", EXACT.glob("*.c"),
+    return for_tests(BUILDS / "lrup-exact-short-lines", EXACT.glob("*.c"),
                      f"-DIDENTITIES_OF_A_LINE={FEW}")
 
 

@@ -9,7 +9,7 @@ invariants. It has to end soon with status 0 and no message, or with status 1 an
 standard error. Its output has to be lines of a stream, by the grammar in this file. The program
 reads each stream that isn't empty, and has to accept it to its end, except for identities beyond
 --lines and clauses of streams that aren't there. A mutant that fails is kept in
-tools/exact/out/mutants."""
+out/tests/mutants."""
 import functools
 import os
 import random
@@ -19,11 +19,11 @@ import subprocess
 from pathlib import Path
 from typing import Callable, Iterator, List, Optional, Sequence, Tuple
 
-from harness import (COUNT, FILTER, FIRST, PROGRAM, SANITIZE, SANITIZED, SANITIZING, Row, example,
+from harness import (BUILDS, COUNT, FIRST, PROGRAM, SANITIZE, SANITIZED, SANITIZING, Row, example,
                      lacking, parametrized, run, sanitized_filter, sanitizer, written)
 from proof_forms import FORMS, Clause, Step, frat, read_formula, read_steps, varint
 
-KEPT = FILTER.parent / "mutants"
+KEPT = BUILDS / "mutants"
 SECONDS = 120
 A_ROW = 100     # mutants per row
 

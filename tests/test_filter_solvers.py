@@ -10,47 +10,47 @@ import subprocess
 from pathlib import Path
 from typing import List
 
-from harness import (FILTER, LIMIT, PROGRAM, ROOT, Ran, Row, example, generated, needs,
-                     parametrized, piped, read_line, started, want, with_memory)
+from harness import (FILTER, LIMIT, PROGRAM, Ran, Row, example, generated, needs, parametrized,
+                     piped, read_line, started, want, with_memory)
 
 SIZES = "--lines 4000000 --room 60000000 "
 CADICAL = f"""\
 cadical -q formula.cnf proof > answer &
 lrupd {SIZES}formula.cnf \\
-    <(tools/exact/out/exact --format binary-drat formula.cnf proof)
+    <(lrup-exact --format binary-drat formula.cnf proof)
 """
 CADICAL_TWICE = f"""\
 cadical -q formula.cnf proof1 > answer1 &
 cadical -q --seed=2 formula.cnf proof2 > answer2 &
 lrupd {SIZES}formula.cnf \\
-    <(tools/exact/out/exact --stream 1 --streams 2 --format binary-drat formula.cnf proof1) \\
-    <(tools/exact/out/exact --stream 2 --streams 2 --format binary-drat formula.cnf proof2)
+    <(lrup-exact --stream 1 --streams 2 --format binary-drat formula.cnf proof1) \\
+    <(lrup-exact --stream 2 --streams 2 --format binary-drat formula.cnf proof2)
 """
 CRYPTOMINISAT = f"""\
 cryptominisat5 --verb 0 formula.cnf proof > answer &
-lrupd {SIZES}formula.cnf <(tools/exact/out/exact formula.cnf proof)
+lrupd {SIZES}formula.cnf <(lrup-exact formula.cnf proof)
 """
 CRYPTOMINISAT_TWICE = f"""\
 cryptominisat5 --verb 0 formula.cnf proof1 > answer1 &
 cryptominisat5 --verb 0 --random 2 formula.cnf proof2 > answer2 &
 lrupd {SIZES}formula.cnf \\
-    <(tools/exact/out/exact --stream 1 --streams 2 formula.cnf proof1) \\
-    <(tools/exact/out/exact --stream 2 --streams 2 formula.cnf proof2)
+    <(lrup-exact --stream 1 --streams 2 formula.cnf proof1) \\
+    <(lrup-exact --stream 2 --streams 2 formula.cnf proof2)
 """
 PICOSAT = f"""\
 picosat formula.cnf -R proof > answer &
-lrupd {SIZES}formula.cnf <(tools/exact/out/exact formula.cnf proof)
+lrupd {SIZES}formula.cnf <(lrup-exact formula.cnf proof)
 """
 BOTH = f"""\
 cadical -q formula.cnf proof1 > answer1 &
 cryptominisat5 --verb 0 formula.cnf proof2 > answer2 &
 lrupd {SIZES}formula.cnf \\
-    <(tools/exact/out/exact --stream 1 --streams 2 --format binary-drat formula.cnf proof1) \\
-    <(tools/exact/out/exact --stream 2 --streams 2 formula.cnf proof2)
+    <(lrup-exact --stream 1 --streams 2 --format binary-drat formula.cnf proof1) \\
+    <(lrup-exact --stream 2 --streams 2 formula.cnf proof2)
 """
 IN_ROUNDS = """\
 cadical -q formula.cnf proof > answer &
-tools/exact/out/exact --rounds live --format binary-drat formula.cnf proof |
+lrup-exact --rounds live --format binary-drat formula.cnf proof |
     { read ready && lrupd --rounds live formula.cnf live/round-1.stream-1; }
 """
 COMMANDS = [("CaDiCaL", CADICAL), ("two of CaDiCaL", CADICAL_TWICE),
@@ -72,7 +72,7 @@ def make_formula(words: str, work: Path) -> Path:
 
 def in_bash(program: str, commands: str, work: Path) -> Ran:
     """Runs the commands in a folder with the repository's tools; returns outputs and status."""
-    os.symlink(ROOT / "tools", work / "tools")
+    os.symlink(FILTER, work / "lrup-exact")
     os.symlink(program, work / "lrupd")
     for pipe in ("proof", "proof1", "proof2"):
         piped(work / pipe)
@@ -95,7 +95,7 @@ def beside(program: str, commands: str, words: str, work: Path) -> None:
     out, said, status = in_bash(program, commands, work)
     *lines, verdict = out.splitlines() or [""]
     want((verdict, said, status), ("s UNSATISFIABLE", "", 0), "the verdict")
-    want([line.endswith(", ended") for line in lines], [True] * commands.count("tools/exact"),
+    want([line.endswith(", ended") for line in lines], [True] * commands.count("lrup-exact"),
          "streams that ended")
 
 

@@ -21,12 +21,12 @@ from typing import List, NamedTuple, Sequence, Tuple
 
 import pytest
 
-from harness import (AGAIN_IF_LATE, COUNT, FOUR, LIMIT, ROOT, TESTS, Ran, Row, alone, compiled,
-                     dimacs, is_newer, parametrized, random_clauses, run, started, until, want,
-                     written)
+from harness import (AGAIN_IF_LATE, BUILDS, COUNT, FOUR, LIMIT, ROOT, TESTS, Ran, Row, alone,
+                     compiled, dimacs, is_newer, parametrized, random_clauses, run, started, until,
+                     want, written)
 from hostile import PROOF, SATISFIABLE, is_model, run_with
 from hostile_programs import COMMON, PROGRAMS, PROVING, programs
-from solving import (EARLY, FRONT, OUT, PROGRAM, SOLVE, Answer, command, end_all, in_environment,
+from solving import (EARLY, FRONT, PROGRAM, SOLVE, Answer, command, end_all, in_environment,
                      in_place_of_lrupd, marked, of_process, processes_of, processes_of_run, solve)
 
 SIGNALS = COUNT or 60
@@ -152,7 +152,7 @@ def refusing_front() -> Path:
     """Wraps the functions that the front calls; none is inlined or replaced by the compiler. One
     worker builds that front."""
     flags = ["-std=c11", "-O0", "-g", "-fno-builtin", "-U_FORTIFY_SOURCE"]
-    place = OUT / "refusing"
+    place = BUILDS / "refusing"
     front = place / "lrup-solve"
     with alone(place / "lock"):
         if not is_newer(front, [WRAPPERS, *SOURCES.glob("*.[ch]")]):

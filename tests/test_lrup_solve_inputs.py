@@ -10,11 +10,11 @@ import time
 from pathlib import Path
 from typing import Dict, List, Optional, Sequence, Tuple, Union
 
-from harness import (COMPRESSED, FILTER, FOUR, LIMIT, ROOT, Ran, Row, compiled, dimacs, example,
+from harness import (COMPRESSED, FILTER, FOUR, LIMIT, Ran, Row, compiled, dimacs, example,
                      generated, in_shell, parametrized, piped, run, started, until, want, written)
 from lrat import lrat_fault
 from proof_forms import read_formula
-from solving import (FOR_TESTS, OUT, PROGRAM, SOLVE, Answer, before_lrupd, check_again, children_of,
+from solving import (FOR_TESTS, PROGRAM, SOLVE, Answer, before_lrupd, check_again, children_of,
                      command, in_environment, in_place_of_lrupd, listed, marked, none_left, solve,
                      want_answer)
 
@@ -310,12 +310,6 @@ def name_with_an_end_of_line(work: Path) -> None:
     want(sum("1 clause checked" in line for line in answer.comments), 1,
          f"clauses in\n{answer.out}")
     check_again(kept)
-
-
-def relative_link(work: Path) -> None:
-    """The links of `make solve` still work if the repository is moved."""
-    want(os.readlink(OUT / "lrupd"),
-         os.path.relpath(ROOT / "crates" / "lrupd" / "out" / "lrupd", OUT), "the link to lrupd")
 
 
 def standard_input(words: List[str], work: Path) -> None:

@@ -535,7 +535,7 @@ def mpi_for_tests(mpi: None) -> None:
     built("solve-mpi", for_tests=True)
 
 
-pytestmark = [pytest.mark.flaky(reruns=2), pytest.mark.xdist_group("mpi")]
+pytestmark = pytest.mark.flaky(reruns=2)
 with_mpi, with_both = (pytest.mark.usefixtures(name) for name in ("mpi", "mpi_for_tests"))
 test_row = with_mpi(parametrized(small_rows()))
 test_long_row = with_both(pytest.mark.long(parametrized([*known(), *rounds(), *deaths()])))

@@ -20,8 +20,8 @@ from typing import Dict, Iterator, List, NamedTuple, Optional, Sequence, Set, Tu
 
 import pytest
 
-from harness import (EXAMPLES, FOUR, PROGRAM, ROOT, RT, TESTS, Row, alone, compiled, parametrized,
-                     piped, report, run, waiting, want, written)
+from harness import (BUILDS, EXAMPLES, FOUR, PROGRAM, ROOT, RT, TESTS, Row, alone, compiled,
+                     parametrized, piped, report, run, waiting, want, written)
 from refused import (ERRORS_OF_READS, FOUR_CLAUSE, SECONDS, SHORT, Answer, Input, InRounds, Machine,
                      complaints, complaints_in_rounds, is_right, not_started)
 from rounds import ONE, TWO, Proof
@@ -266,7 +266,7 @@ def tests() -> Iterator[Test]:
 def program_of_tests(crate: str) -> str:
     folder = ROOT / "crates" / f"{crate}_tests"
     program = folder / "out" / f"{crate}_tests_tests"
-    with alone(folder / "out" / "lock"):
+    with alone(BUILDS / f"{crate}.lock"):
         if not program.exists():
             if not RT:
                 pytest.skip(f"the tests of {crate} aren't built, and there is no --rt")
@@ -413,4 +413,5 @@ def rows(program: str) -> Iterator[Row]:
     yield "the memory of a store", kept
 
 
-test_row = parametrized(rows(PROGRAM))
+OF_CRATES = pytest.mark.of_crates
+test_row = parametrized(rows(PROGRAM), {with_test: OF_CRATES, kept: OF_CRATES})

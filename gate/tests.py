@@ -1,0 +1,296 @@
+#!/usr/bin/env python3
+"""Runs the tests of programs, and says what it does at least every half minute.
+
+    python3 gate/tests.py --program LRUPD [--after build | --after ci] [NAME..] [-- OPTION..]
+
+NAME is a file tests/test_NAME.py without 'test_' and '.py'; without names all are run. Each has a
+pytest of its own, which gets the OPTIONs; the longest, by gate/seconds.txt, begin first.
+
+With --after build the pages are checked, C is compiled, and the program is proved by
+gate/build.py; files that need no lrupd run meanwhile. With --after ci, `rt ci` proves everything,
+tries the edits and tests the crates, and then come the tests of programs. The last line is
+'N passed, M failed': rows of tests, what rt ci counts, and each other step. With --write, the
+processor seconds of the tests that were run go into gate/seconds.txt."""
+import argparse
+import contextlib
+import os
+import re
+import shutil
+import signal
+import subprocess
+import sys
+import tempfile
+import time
+from collections import Counter
+from pathlib import Path
+from typing import Dict, Iterator, List, Optional, Sequence
+
+sys.dont_write_bytecode = True
+import build
+
+ROOT = build.ROOT
+SECONDS_FILE = ROOT / "gate" / "seconds.txt"
+BUILT = ROOT / "crates" / "lrupd" / "out" / "lrupd"
+CORES = build.CORES
+AT_ONCE = CORES + 2     # files of tests, since most tests wait now and then
+QUIET = 30              # seconds after which a line says what is going on
+NO_ROWS = 5             # pytest's status if all rows of a file are left out
+CI_SECONDS = 9000       # processor seconds of rt ci from nothing
+PROOFS = ("build", "ci")
+# Files of tests that need no lrupd: their rows run while it is being proved.
+WITHOUT_LRUPD = ("builds", "quotes")
+
+
+def seconds_of(kind: str) -> Dict[str, int]:
+    """The processor seconds of each crate, or of each file of tests, by its name."""
+    return {name: int(seconds) for name, seconds in re.findall(
+        rf"^{kind} (\w+) (\d+)$", SECONDS_FILE.read_text(), re.M)}
+
+
+def clock(seconds: float) -> str:
+    return f"{int(seconds) // 60}:{int(seconds) % 60:02}"
+
+
+class Step:
+    """A command that runs, or has ended: a file of tests, a proof, or a check."""
+
+    def __init__(self, name: str, words: Sequence[object], reckoned: int, nice: int = 0,
+                 is_tests: bool = False) -> None:
+        self.name, self.reckoned, self.is_tests = name, reckoned, is_tests
+        self.began, self.used = time.monotonic(), 0
+        self.said = tempfile.TemporaryFile("w+", errors="replace")
+        self.status: Optional[int] = None
+        self.shown = 0      # the characters of its output that show_lines has looked at
+        self.process = subprocess.Popen(
+            ["nice", "-n", str(nice), *map(str, words)], cwd=ROOT, stdin=subprocess.DEVNULL,
+            stdout=self.said, stderr=subprocess.STDOUT, start_new_session=True,
+            env={**os.environ, "PYTHONUNBUFFERED": "1"})
+
+    def output(self) -> str:
+        self.said.seek(0)
+        return self.said.read()
+
+    def has_ended(self) -> bool:
+        if self.status is None:
+            pid, status, usage = os.wait4(self.process.pid, os.WNOHANG)
+            if pid:
+                self.status = self.process.returncode = os.waitstatus_to_exitcode(status)
+                self.used = round(usage.ru_utime + usage.ru_stime)
+        return self.status is not None
+
+    def elapsed(self) -> str:
+        return clock(time.monotonic() - self.began)
+
+    def end(self) -> None:
+        """Ends the step's processes, if it hasn't ended."""
+        if not self.has_ended():
+            with contextlib.suppress(ProcessLookupError):
+                os.killpg(self.process.pid, signal.SIGTERM)
+            self.process.wait()
+
+
+class Run:
+    """What has been done, what is being done, and what is left."""
+
+    def __init__(self, options: argparse.Namespace) -> None:
+        self.options = options
+        self.seconds = seconds_of("tests")
+        self.running: List[Step] = []
+        self.done: Dict[str, Step] = {}
+        self.skipped: Counter[str] = Counter()
+        self.passed = self.failed = 0
+        named = options.names or sorted(path.stem[5:] for path in ROOT.glob("tests/test_*.py"))
+        if not shutil.which(options.pytest.split()[0]):
+            self.skipped["all tests of programs: pytest isn't installed"] += 1
+            named = []
+        self.todo = sorted(named, key=lambda name: -self.reckoned(name))
+        self.began = self.said = time.monotonic()
+        self.all_seconds = sum(map(self.reckoned, self.todo)) + sum(self.proving().values())
+
+    def reckoned(self, name: str) -> int:
+        return self.seconds.get(name, 20)
+
+    def proving(self) -> Dict[str, int]:
+        if self.options.after == "build":
+            return seconds_of("crate")
+        return {"ci": CI_SECONDS} if self.options.after == "ci" else {}
+
+    def say(self, text: str) -> None:
+        print(text, flush=True)
+        self.said = time.monotonic()
+
+    # Steps.
+
+    def start(self, name: str, words: Sequence[object], reckoned: int = 0) -> Step:
+        self.running.append(Step(name, words, reckoned))
+        return self.running[-1]
+
+    def start_tests(self, name: str, nice: int) -> None:
+        self.todo.remove(name)
+        options = self.options
+        left_out = {"build": ["-m", "not long and not of_crates"], "ci": ["-m", "not long"]}
+        words = [*options.pytest.split(), "--program", options.program, "--rt", options.rt,
+                 *left_out.get(options.after, []), *options.options, f"tests/test_{name}.py"]
+        self.running.append(Step(name, words, self.reckoned(name), nice, is_tests=True))
+
+    def wait(self) -> None:
+        """Waits a moment, and counts the steps that have ended."""
+        time.sleep(0.1)
+        ended = [step for step in self.running if step.has_ended()]
+        for step in self.running:
+            if step.name in PROOFS:
+                self.show_lines(step)
+        for step in ended:
+            self.running.remove(step)
+            self.done[step.name] = step
+            self.count(step)
+        if time.monotonic() - self.said > QUIET:
+            self.say(self.state())
+
+    def show_lines(self, step: Step) -> None:
+        """Prints what a proof has printed since the last call: whole lines, of `rt ci` only those
+        that say what it has done."""
+        text = step.output()
+        end = text.rfind("\n") + 1
+        for line in text[step.shown:end].splitlines():
+            if step.name != "ci" or line.startswith("rt: "):
+                self.say(line)
+        step.shown = end
+
+    def count(self, step: Step) -> None:
+        """Counts what passed and failed in a step that has ended, and prints it."""
+        text = step.output()
+        passed, failed = int(not step.status), int(bool(step.status))
+        if step.is_tests or step.name == "ci":
+            last = text.rstrip().rpartition("\n")[2]
+            passed, failed = (sum(map(int, re.findall(rf"(\d+) {word}", last)))
+                              for word in ("passed", "(?:failed|error)"))
+            if not failed and step.status not in (0, NO_ROWS):
+                failed = 1
+        self.passed += passed
+        self.failed += failed
+        for number, why in re.findall(r"^SKIPPED \[(\d+)\] \S+: (.*)", text, re.M):
+            self.skipped[why] += int(number)
+        if failed:
+            self.say(f"{text[step.shown if step.name == 'build' else 0:].rstrip()}\n"
+                     f"{step.name}: {failed} failed")
+        elif step.name != "build":
+            left = f"; {self.left()} % left" if self.left() else ""
+            self.say(f"{step.name}: {passed} passed, {step.elapsed()}{left}")
+
+    # Words.
+
+    def left(self) -> int:
+        """The percentage of the processor seconds that is left."""
+        tests = sum(self.reckoned(name) for name in self.todo)
+        for step in self.running:
+            if step.name == "build":
+                found = re.findall(r"; (\d+) % left", step.output()) or ["100"]
+                tests += int(found[-1]) * step.reckoned // 100
+            else:
+                passed = (time.monotonic() - step.began) * (CORES if step.name == "ci" else 0.5)
+                tests += round(max(step.reckoned / 20, step.reckoned - passed))
+        return 100 * tests // max(1, self.all_seconds)
+
+    def state(self) -> str:
+        names = ", ".join(f"{step.name} ({step.elapsed()})" for step in self.running)
+        return f"running: {names}; {self.left()} % left"
+
+    # The whole.
+
+    def everything(self) -> None:
+        options = self.options
+        if options.after:
+            self.start("pages", ["make", "-s", "pages"])
+            self.start("C", ["make", "-s", f"-j{CORES}", "tools", "warnings"])
+            while self.running:
+                self.wait()
+        proof: Optional[Step] = None
+        if options.after == "build":
+            words = [sys.executable, "gate/build.py", options.rt, options.program]
+            proof = self.start("build", words, sum(self.proving().values()))
+        elif options.after == "ci":
+            proof = self.start("ci", [options.rt, "ci"], CI_SECONDS)
+        while proof in self.running:
+            self.start_ready(CORES if options.after == "build" else 0, 19, WITHOUT_LRUPD)
+            self.wait()
+        if proof and proof.status:
+            self.todo = []
+        elif options.after == "ci":
+            build.put_program(ROOT / options.program)
+        while self.todo or self.running:
+            self.start_ready(AT_ONCE, 0, self.todo)
+            self.wait()
+
+    def start_ready(self, most: int, nice: int, names: Sequence[str]) -> None:
+        """Starts tests with these names, so that at most this many files run at once."""
+        ready = [name for name in self.todo if name in names]
+        for name in ready[:max(0, most - sum(step.is_tests for step in self.running))]:
+            self.start_tests(name, nice)
+
+    def end(self) -> None:
+        for step in self.running:
+            step.end()
+
+    def tell(self) -> None:
+        if self.skipped:
+            whys = ", ".join(f"{why} ({number})" for why, number in self.skipped.most_common())
+            print(f"left out: {whys}")
+        print(f"took {clock(time.monotonic() - self.began)}")
+        print(f"{self.passed} passed, {self.failed} failed", flush=True)
+
+    def write_seconds(self) -> None:
+        found = {**seconds_of("tests"),
+                 **{name: step.used for name, step in self.done.items() if step.is_tests}}
+        text = re.sub(r"^tests .*\n", "", SECONDS_FILE.read_text(), flags=re.M)
+        SECONDS_FILE.write_text(text + "".join(f"tests {name} {seconds}\n"
+                                               for name, seconds in sorted(found.items())))
+
+
+@contextlib.contextmanager
+def kept(program: Path) -> Iterator[None]:
+    """rt ci removes the program before it proves it: if it is then not built again, the one that
+    was there comes back."""
+    if not program.is_file():
+        yield
+        return
+    with tempfile.TemporaryDirectory() as folder:
+        copy = shutil.copy2(program, folder)
+        try:
+            yield
+        finally:
+            if not program.exists():
+                program.parent.mkdir(parents=True, exist_ok=True)
+                shutil.copy2(copy, program)
+
+
+def main() -> int:
+    parser = argparse.ArgumentParser(allow_abbrev=False)
+    parser.add_argument("--program", required=True)
+    parser.add_argument("--pytest", default="pytest-3")
+    parser.add_argument("--rt", default="rt")
+    parser.add_argument("--after", choices=("build", "ci"))
+    parser.add_argument("--write", action="store_true")
+    parser.add_argument("names", nargs="*")
+    words = sys.argv[1:]
+    at = words.index("--") if "--" in words else len(words)
+    options = parser.parse_args(words[:at])
+    options.options = words[at + 1:]
+    signal.signal(signal.SIGTERM, lambda *_: sys.exit(143))
+    run = Run(options)
+    try:
+        with kept(BUILT):
+            run.everything()
+    finally:
+        run.end()
+    run.tell()
+    if options.write:
+        run.write_seconds()
+    return int(run.failed > 0)
+
+
+if __name__ == "__main__":
+    try:
+        sys.exit(main())
+    except KeyboardInterrupt:
+        sys.exit(130)
