@@ -74,7 +74,8 @@ build: toolchain ## build: prove the program, 15 to 26 minutes the first time, a
 # line even with -n.
 PLACE = $(DESTDIR)$(PREFIX)
 COMPLETIONS = $(PLACE)/share/bash-completion/completions
-install: $(if $(shell command -v $(RT)),build,built) exact trim explain install-solve ## use: install all, with manual pages, below PREFIX=/usr/local
+PAGES = $(PLACE)/share/doc/lrupd
+install: $(if $(shell command -v $(RT)),build,built) exact trim explain install-solve ## use: install all, with manual pages, pages and examples, below PREFIX=/usr/local
 	install -d "$(PLACE)/bin" "$(PLACE)/share/man/man1" "$(COMPLETIONS)"
 	install -m 755 $(PROGRAM) "$(PLACE)/bin/lrupd"
 	install -m 755 tools/lrup-chain "$(PLACE)/bin"
@@ -85,6 +86,7 @@ install: $(if $(shell command -v $(RT)),build,built) exact trim explain install-
 		"$(PLACE)/share/man/man1"
 	sed -i 's/^\.Os$$/.Os lrupd $(VERSION)/' "$(PLACE)"/share/man/man1/lrup*.1
 	sh tools/completions.sh "$(PLACE)/bin" "$(COMPLETIONS)"
+	sh tools/pages.sh "$(PAGES)"
 
 built:
 	@test -x $(PROGRAM) || \
@@ -105,6 +107,7 @@ uninstall: ## use: remove what make install installs below PREFIX
 	rm -f $(foreach name,lrupd lrup-chain lrup-exact lrup-trim lrup-explain lrup-solve lrup-check,\
 	"$(PLACE)/bin/$(name)" "$(PLACE)/share/man/man1/$(name).1" "$(COMPLETIONS)/$(name)") \
 	"$(PLACE)/libexec/lrupd/lrup-engines"
+	rm -rf "$(PAGES)"
 	@rmdir "$(PLACE)/libexec/lrupd" 2> /dev/null || :
 
 demo: build solver ## try: four solvers that share clauses, checked while they run
@@ -277,7 +280,7 @@ pages: c-and-python ## check: the documents, against the sources and each other;
 	@python3 gate/promises.py --check
 
 # Needs dpkg-deb and dpkg-dev.
-deb: ## use: a Debian package of what make install installs, with the pages for users and the examples, in out/
+deb: ## use: a Debian package of what make install installs, in out/
 	@rm -rf out/deb && $(MAKE) --no-print-directory install DESTDIR="$(abspath out/deb)" PREFIX=/usr
 	@sh tools/deb.sh out/deb $(VERSION)
 

@@ -85,6 +85,15 @@ def text_of(data: Optional[bytes]) -> str:
     return (data or b"").decode(errors="surrogateescape")
 
 
+def built(words: Words) -> List[str]:
+    """The words of a command. Without a package of Debian `make tools` can't build all tools, and
+    a row that runs such a tool is skipped."""
+    found = list(map(str, words))
+    if Path(found[0]).parent == BIN and not Path(found[0]).exists():
+        lacking(f"{Path(found[0]).name} isn't built")
+    return found
+
+
 def run(words: Words, given: Union[str, bytes, None] = None, limit: float = LIMIT,
         **how: Any) -> Ran:
     """Runs a program to its end, with these bytes on its standard input."""
@@ -93,7 +102,7 @@ def run(words: Words, given: Union[str, bytes, None] = None, limit: float = LIMI
     else:
         how.setdefault("stdin", subprocess.DEVNULL)
     how = {"stdout": subprocess.PIPE, "stderr": subprocess.PIPE, **how}
-    done = subprocess.run(list(map(str, words)), timeout=limit, **how)
+    done = subprocess.run(built(words), timeout=limit, **how)
     return Ran(text_of(done.stdout), text_of(done.stderr), done.returncode)
 
 
@@ -104,7 +113,7 @@ def in_shell(command: str, *words: object, **how: Any) -> Ran:
 @contextlib.contextmanager
 def started(words: Words, **how: Any) -> Iterator["subprocess.Popen[Any]"]:
     """A running program, which is killed if it hasn't ended when the block is left."""
-    with subprocess.Popen(list(map(str, words)), **how) as process:
+    with subprocess.Popen(built(words), **how) as process:
         try:
             yield process
         finally:

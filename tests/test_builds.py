@@ -114,8 +114,8 @@ def in_its_build(words: Sequence[object]) -> Ran:
 
 def installed(work: Path) -> None:
     """Installs built programs without the toolchain. `make -n install` changes nothing; `make
-    install` installs each program, with a manual page and a completion. Uninstalling leaves
-    nothing. A missing program is reported."""
+    install` installs each program, with a manual page and a completion, the pages and the
+    examples. Uninstalling leaves nothing. A missing program is reported."""
     program = written("#!/bin/sh\necho 'usage: lrupd [--lines N] [--help]'\n", work, "lrupd")
     program.chmod(0o755)
     make = lambda *more: in_its_build([*more, f"DESTDIR={work}/a place"])
@@ -123,13 +123,16 @@ def installed(work: Path) -> None:
          (0, False), "the status of make -n install, and whether it makes the folder")
     done = make("install", f"PROGRAM={program}")
     want((done.err, done.status), ("", 0), "the output of make install")
+    pages = work / "a place" / "usr/share/doc/lrupd"
     files = {str(path.relative_to(work / "a place")) for path in (work / "a place").rglob("*")
-             if path.is_file()}
+             if path.is_file() and pages not in path.parents}
     solving = {"lrup-solve", "lrup-check"} if "isn't installed" not in done.out else set()
     names = {"lrupd", "lrup-chain", "lrup-exact", "lrup-trim", "lrup-explain"} | solving
     wanted = {f"usr/{place.format(name)}" for name in names for place in
               ("bin/{}", "share/man/man1/{}.1", "share/bash-completion/completions/{}")}
     want(files - {"usr/libexec/lrupd/lrup-engines"}, wanted, "the files")
+    want([name for name in ("README.md", "USING.md", "examples/fifo/bmc.sh", "examples/bmc.cnf")
+          if not (pages / name).is_file()], [], "pages and examples that aren't there")
     text = (work / "a place" / "usr/share/bash-completion/completions/lrupd").read_text()
     want('-W "--help --lines"' in text, True, f"the options that are completed: {text}")
     done = run([work / "a place" / "usr/bin/lrup-chain", "--version"])

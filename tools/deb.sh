@@ -4,7 +4,7 @@
 #
 #     sh tools/deb.sh ROOT VERSION
 #
-# It adds the documents and the examples.
+# It adds what Debian wants of a package.
 set -eu
 umask 022
 [ $# -eq 2 ] || { echo "usage: sh $0 ROOT VERSION" >&2; exit 2; }
@@ -18,29 +18,18 @@ work=$(mktemp -d)
 trap 'rm -rf "$work"' EXIT
 
 documents=$root/usr/share/doc/lrupd
-mkdir -p "$documents/examples" "$root/DEBIAN"
-cp "$top/README.md" "$top"/docs/USING.md "$top"/docs/FORMAT.md "$top"/docs/EMITTING.md "$top"/docs/TRUST.md "$documents"
-cp "$top"/examples/README.md "$top"/examples/*.cnf "$top"/examples/*.cube "$top"/examples/*.lrup "$top"/examples/*.[1-4] \
-    "$top"/examples/*.out "$top"/examples/chain.py "$top"/examples/acl2.py "$top"/examples/*.awk "$documents/examples"
-gzip -9nc "$top/CHANGELOG.md" > "$documents/changelog.gz"
-# All pages are in one folder here, and a link to a file that isn't in the package becomes plain
-# text.
-sed -i -e 's#](\(\.\./\)*docs/#](#g' -e 's#](\.\./#](#g' "$documents"/*.md
-for target in $(grep -ohE '\]\([^)#]+' "$documents"/*.md "$documents"/examples/*.md | sed 's/^](//' | sort -u); do
-    for page in "$documents"/*.md "$documents"/examples/*.md; do
-        case $target in http*) continue ;; esac
-        [ -e "${page%/*}/$target" ] || sed -zi "s#\[\([^][]*\)\]($target[^)]*)#\1#g" "$page"
-    done
-done
+mkdir "$root/DEBIAN"
+gzip -9n "$documents/CHANGELOG.md"
+mv "$documents/CHANGELOG.md.gz" "$documents/changelog.gz"
 for file in "$top"/LICENSE* "$top"/COPYING* "$top"/copyright; do
     [ ! -f "$file" ] || cat "$file" >> "$documents/copyright"
 done
 gzip -9nf "$root"/usr/share/man/man1/*.1
 
-# dpkg-shlibdeps runs only in a source package. It must not get lrup-chain, which is a script.
+# dpkg-shlibdeps runs only in a source package, and must not get scripts.
 mkdir "$work/debian"
 printf 'Source: lrupd\n\nPackage: lrupd\nArchitecture: any\n' > "$work/debian/control"
-depends=$(cd "$work" && find "$root/usr" -path "$root/usr/share" -prune -o ! -name lrup-chain -type f -exec dpkg-shlibdeps -O {} + | sed -n 's/^shlibs:Depends=//p')
+depends=$(cd "$work" && find "$root/usr" -path "$root/usr/share" -prune -o ! -name lrup-chain ! -name lrup-check -type f -exec dpkg-shlibdeps -O {} + | sed -n 's/^shlibs:Depends=//p')
 cat > "$root/DEBIAN/control" << END
 Package: lrupd
 Version: $version
