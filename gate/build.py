@@ -31,7 +31,9 @@ LOG = CRATES / PROGRAM / "out" / "build.log"
 LANES = (ROOT / ".git" if (ROOT / ".git").is_dir() else ROOT / "out") / "lanes"
 PARTS = ("src", "specs", "proofs")
 CORES = len(os.sched_getaffinity(0))
-JOBS = min(4, CORES)
+# The jobs of a crate beside which others are proved. Each job reads all that the crate uses, so more
+# jobs than cores are a waste.
+JOBS = min(2, CORES)
 GB_EACH = 3.5  # of memory for a lane with four jobs; the most that was measured is 3.3
 SECONDS_EACH = 40  # of spare processor time for each step of nice
 
@@ -72,7 +74,7 @@ def is_young(name):
 
 def lanes_at_once():
     available = re.search(r"MemAvailable: +(\d+)", Path("/proc/meminfo").read_text())
-    return max(1, min(3, CORES, int(int(available[1]) / 1e6 / GB_EACH)))
+    return max(1, min(CORES, int(int(available[1]) / 1e6 / GB_EACH)))
 
 
 def link(one, other):
@@ -178,10 +180,11 @@ def prove_libraries(rt, done):
             ready = [name for name in todo if below(name) <= done]
             for name in ready[:most - len(running)]:
                 todo.remove(name)
+                jobs = JOBS if running else CORES
                 running.append(Lane(name))
                 spare = max(map(way, [name, *todo, *(lane.name for lane in running)])) - way(name)
                 running[-1].start("nice", "-n", str(min(19, spare // SECONDS_EACH)), rt, "lib",
-                                  "--jobs", str(JOBS))
+                                  "--jobs", str(jobs))
             time.sleep(0.1)
             for lane in [lane for lane in running if lane.has_ended()]:
                 running.remove(lane)
@@ -212,7 +215,7 @@ def prove_program(rt, were_libraries):
     library's line was printed."""
     began, before = time.monotonic(), processor_seconds()
     files = [ROOT / "examples" / f"four-clause.{end}" for end in ("cnf", "lrup")]
-    words = [rt, "run", "--jobs", str(JOBS), "--", *files]
+    words = [rt, "run", "--jobs", "1", "--", *files]    # more don't make it faster
     ran = subprocess.run(words, cwd=CRATES / PROGRAM, stdout=subprocess.PIPE,
                          stderr=subprocess.STDOUT, errors="replace")
     is_new = were_libraries or re.search(rf"^crate {PROGRAM}:", ran.stdout, re.M)

@@ -87,7 +87,8 @@ def in_tree(tree: Path, rt: object, target: str) -> Ran:
 def whole(tree: Path) -> None:
     """The proved program is there, and no link."""
     for name in (PROVED, "out/bin/lrupd"):
-        want((tree / name).read_bytes() == Path(PROGRAM).read_bytes(), True, f"whether {name} is it")
+        want((tree / name).read_bytes() == Path(PROGRAM).read_bytes(), True,
+             f"whether {name} is the program")
     links = [str(path.relative_to(tree)) for path in tree.rglob("*") if path.is_symlink()]
     want(links, [], "links")
 
