@@ -305,13 +305,13 @@ packages: ## check: install the Debian packages that tests need, as root or by s
 # Each says what it does while it runs. The last line is 'N passed, M failed'.
 test: toolchain c-and-python ## check: prove the program, and run all tests of programs; installs the packages that they lack
 	@sh gate/packages.sh
-	@python3 gate/tests.py --program $(PROGRAM) --pytest '$(PYTEST)' --rt '$(RT)' --after build
+	@python3 gate/tests.py --program $(PROGRAM) --pytest '$(PYTEST)' --rt '$(RT)' --after build $(TESTS)
 
 # What has to pass before a push: `rt ci` proves everything from nothing, tries the edits, runs the
 # crates' tests, and builds the program with two compilers.
 gate: toolchain c-and-python ## check: what make test does, and all other proofs, edits and tests of crates
 	@sh gate/packages.sh
-	@python3 gate/tests.py --program $(PROGRAM) --pytest '$(PYTEST)' --rt '$(RT)' --after ci
+	@python3 gate/tests.py --program $(PROGRAM) --pytest '$(PYTEST)' --rt '$(RT)' --after ci $(TESTS)
 
 toolchain:
 	@command -v $(RT) > /dev/null || \

@@ -31,8 +31,7 @@ LOG = CRATES / PROGRAM / "out" / "build.log"
 LANES = (ROOT / ".git" if (ROOT / ".git").is_dir() else ROOT / "out") / "lanes"
 PARTS = ("src", "specs", "proofs")
 CORES = len(os.sched_getaffinity(0))
-# The jobs of a crate beside which others are proved. Each job reads all that the crate uses, so more
-# jobs than cores are a waste.
+# The jobs of a crate beside which others are proved. Each job reads all that the crate uses.
 JOBS = min(2, CORES)
 GB_EACH = 3.5  # of memory for a lane with four jobs; the most that was measured is 3.3
 SECONDS_EACH = 40  # of spare processor time for each step of nice

@@ -6,11 +6,12 @@
 NAME is a file tests/test_NAME.py without 'test_' and '.py'; without names all are run. Each has a
 pytest of its own, which gets the OPTIONs; the longest, by gate/seconds.txt, begin first.
 
-With --after build the pages are checked, C is compiled, and the program is proved by
-gate/build.py; files that need no lrupd run meanwhile. With --after ci, `rt ci` proves everything,
-tries the edits and tests the crates, and then come the tests of programs. The last line is
-'N passed, M failed': rows of tests, what rt ci counts, and each other step. With --write, the
-processor seconds of the tests that were run go into gate/seconds.txt."""
+With --after build the tools are built, and the program is proved by gate/build.py; files that need
+no lrupd run meanwhile. With --after ci, `rt ci` proves everything, tries the edits and tests the
+crates, and then come the tests of programs. Both also check the pages and C's warnings, unless
+names are given. The last line is 'N passed, M failed': rows of tests, what rt ci counts, and each
+other step. With --write, the processor seconds of the tests that were run go into
+gate/seconds.txt."""
 import argparse
 import contextlib
 import os
@@ -37,6 +38,7 @@ QUIET = 30              # seconds after which a line says what is going on
 NO_ROWS = 5             # pytest's status if all rows of a file are left out
 CI_SECONDS = 9000       # processor seconds of rt ci from nothing
 PROOFS = ("build", "ci")
+SIGNALS = (signal.SIGINT, signal.SIGTERM)
 # Files of tests that need no lrupd: their rows run while it is being proved.
 WITHOUT_LRUPD = ("builds", "quotes")
 
@@ -130,7 +132,7 @@ class Run:
         self.todo.remove(name)
         options = self.options
         left_out = {"build": ["-m", "not long and not of_crates"], "ci": ["-m", "not long"]}
-        words = [*options.pytest.split(), "--program", options.program, "--rt", options.rt,
+        words = [*options.pytest.split(), f"--program={options.program}", f"--rt={options.rt}",
                  *left_out.get(options.after, []), *options.options, f"tests/test_{name}.py"]
         self.running.append(Step(name, words, self.reckoned(name), nice, is_tests=True))
 
@@ -206,8 +208,10 @@ class Run:
     def everything(self) -> None:
         options = self.options
         if options.after:
-            self.start("pages", ["make", "-s", "pages"])
-            self.start("C", ["make", "-s", "-k", f"-j{CORES}", "tools", "warnings"])
+            if not options.names:
+                self.start("pages", ["make", "-s", "pages"])
+                self.start("warnings", ["make", "-s", "warnings"])
+            self.start("tools", ["make", "-s", "-k", f"-j{CORES}", "tools"])
             while self.running:
                 self.wait()
         proof: Optional[Step] = None
@@ -269,6 +273,13 @@ def kept(program: Path) -> Iterator[None]:
                 shutil.copy2(copy, program)
 
 
+def end_by_signal(number: int, _: object) -> None:
+    """Ends after what was started has ended. make passes a signal on, so it may come twice."""
+    for other in SIGNALS:
+        signal.signal(other, signal.SIG_IGN)
+    sys.exit(128 + number)
+
+
 def main() -> int:
     parser = argparse.ArgumentParser(allow_abbrev=False)
     parser.add_argument("--program", required=True)
@@ -281,13 +292,14 @@ def main() -> int:
     at = words.index("--") if "--" in words else len(words)
     options = parser.parse_args(words[:at])
     options.options = words[at + 1:]
-    signal.signal(signal.SIGTERM, lambda *_: sys.exit(143))
+    for number in SIGNALS:
+        signal.signal(number, end_by_signal)
     run = Run(options)
-    try:
-        with kept(BUILT):
+    with kept(BUILT):
+        try:
             run.everything()
-    finally:
-        run.end()
+        finally:
+            run.end()
     run.tell()
     if options.write:
         run.write_seconds()
@@ -295,7 +307,4 @@ def main() -> int:
 
 
 if __name__ == "__main__":
-    try:
-        sys.exit(main())
-    except KeyboardInterrupt:
-        sys.exit(130)
+    sys.exit(main())
