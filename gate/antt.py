@@ -73,22 +73,23 @@ class Declaration(NamedTuple):
 
 
 class Source:
-    """A file or a part of one: its first comment, its `use` lines, and what it declares."""
+    """A file or a part of one, from line `first` on: its first comment, its `use` lines, and what
+    it declares."""
 
-    def __init__(self, lines: Iterable[str], path: Path) -> None:
+    def __init__(self, lines: Iterable[str], path: Path, first: int = 0) -> None:
         self.path = path
         self.title: List[str] = []
         self.uses: List[str] = []
         self.declarations: List[Declaration] = []
-        self.read(lines)
+        self.read(lines, first)
         types = [declared for declared in self.declarations if "data" in declared.marks]
         self.owners = {name: declared for declared in types for name in declared.members()}
         self.owners.update((declared.name, declared) for declared in self.declarations)
 
-    def read(self, lines: Iterable[str]) -> None:
+    def read(self, lines: Iterable[str], first: int) -> None:
         comment: List[str] = []
         at_title, indent, opens = True, 0, False    # `opens`: inside the head of a `module`
-        for place, line in enumerate(lines):
+        for place, line in enumerate(lines, first):
             if line.strip():
                 indent = min(indent, len(line) - len(line.lstrip()))
             inner = line[indent:]

@@ -40,8 +40,8 @@ class Quote(NamedTuple):
         return f"{shown(self.page)}:{number + 1}"
 
     def source(self) -> antt.Source:
-        lines = [""] * self.first + self.lines if self.file.suffix == ".antt" else []
-        return antt.Source(lines, self.page)
+        lines = self.lines if self.file.suffix == ".antt" else []
+        return antt.Source(lines, self.page, self.first)
 
     def things(self) -> Set[Thing]:
         """The things that the quote names, if it is code."""
@@ -50,9 +50,9 @@ class Quote(NamedTuple):
 
 
 class Page:
-    def __init__(self, name: str) -> None:
-        self.path = DOCS / f"{name}.md"
-        text = self.path.read_text()
+    def __init__(self, name: str, folder: Path) -> None:
+        self.path, self.folder = DOCS / f"{name}.md", folder
+        text = self.file().read_text()
         empty = lambda block: "\n" * block[0].count("\n")
         self.text = re.sub(r"^```\w+\n(?:.*\n)*?```$", empty, text, flags=re.M)
         lines = enumerate(self.text.split("\n"), 1)
@@ -64,6 +64,10 @@ class Page:
             section = max(heading for heading in self.headings if heading <= first)
             lines = block[2].split("\n")[:-1]
             self.quotes.append(Quote(self.path, first, section, file_of(files[-1]), lines))
+
+    def file(self) -> Path:
+        """The file with the page's text."""
+        return self.folder / self.path.name
 
     def paragraphs(self) -> Iterator[Tuple[int, str]]:
         """Each paragraph as one line, with the number of its first line."""
@@ -160,7 +164,7 @@ def wrong_counts(page: Page) -> Iterator[str]:
                    f"'use {count} definitions'")
 
 
-def wrong_text(page: Page) -> Iterator[str]:
+def wrong_text(page: Page, pages: Dict[Path, Page]) -> Iterator[str]:
     """Links that don't lead to what they name, and quoted words that their link's target lacks."""
     for number, text in page.paragraphs():
         for words, said, target in re.findall(rf"(?:`([^`]+)` in )?{LINK}", text):
@@ -170,7 +174,8 @@ def wrong_text(page: Page) -> Iterator[str]:
                 own = antt.read(file).owners.get(name)
                 lines = own.shown() if own else []
             elif file.suffix == ".md" and lines:
-                lines = [line for quote in Page(file.stem).quotes for line in quote.lines]
+                other = pages.get(file) or Page(file.stem, page.folder)
+                lines = [line for quote in other.quotes for line in quote.lines]
             place, pattern = f"{shown(page.path)}:{number}", rf"^ *([a-z]+ )*{name}\b"
             if name != file.stem and not re.search(pattern, "\n".join(lines), re.M):
                 yield (f"{place}: the link of {said} leads to {target}, which doesn't declare it: "
@@ -193,23 +198,25 @@ def unexplained(page: Page, known: Set[str]) -> Iterator[str]:
 
 
 def write(page: Page) -> None:
-    lines = page.path.read_text().split("\n")
+    lines = page.file().read_text().split("\n")
     for quote in reversed(page.quotes):
         for declared in reversed(quote.source().declarations):
             own = antt.read(quote.file).owners.get(declared.name)
             end = declared.place + len(declared.lines)
             if own and own.shown() != declared.shown():
                 lines[end - len(declared.shown()):end] = own.shown()
-    page.path.write_text("\n".join(lines))
+    page.file().write_text("\n".join(lines))
 
 
-def main(words: List[str]) -> None:
+def main(words: List[str], folder: Path = DOCS) -> None:
+    """Tests give another folder, with copies of the pages."""
     if words not in ([], ["--write"]):
         sys.exit(__doc__)
     for name in PAGES if words else []:
-        write(Page(name))
-    pages, known = [Page(name) for name in PAGES], set()
-    quotes = [quote for page in pages for quote in page.quotes]
+        write(Page(name, folder))
+    pages, known = [Page(name, folder) for name in PAGES], set()
+    quotes, by_path = ([quote for page in pages for quote in page.quotes],
+                       {page.path: page for page in pages})
     fence = "a fence shares its line with other text, or a block isn't closed: fix it"
     wrong = [f"{shown(page.path)}: {fence}" for page in pages if "```" in page.text]
     wrong += [f"{quote.at(quote.first)}: a quote of no file: link to its file above it"
@@ -219,7 +226,7 @@ def main(words: List[str]) -> None:
             wrong += (wrong_definitions if quote.file.suffix == ".antt" else wrong_code)(quote)
         wrong += wrong_choice(quotes)
         for page in pages:
-            wrong += [*wrong_counts(page), *wrong_text(page), *unexplained(page, known)]
+            wrong += [*wrong_counts(page), *wrong_text(page, by_path), *unexplained(page, known)]
     print("\n".join([*wrong, f"quotes: {len(wrong)} faults"]))
     sys.exit(bool(wrong))
 

@@ -1,12 +1,17 @@
 """Runs gate/quotes.py on wrong pages.
 
 In a copy of the pages, each row replaces a text."""
+import contextlib
+import io
 import shutil
 import sys
 from pathlib import Path
 from typing import List
 
-from harness import ROOT, Row, parametrized, run, want
+from harness import ROOT, Ran, Row, parametrized, want
+
+sys.path.append(str(ROOT / "gate"))
+import quotes
 
 PAGE = "AUDIT.md"
 COMMENT, TYPE = ("-- no assignment satisfies all clauses of the formula\n",
@@ -18,23 +23,29 @@ ANOTHER = "-- the negation of a test\nnegation : Bool → Bool\nnegation x = not
 FILE = "](../crates/lrup_model/specs/Entailment.antt)\n\n```agda\n" + WHOLE
 
 
+def checked(words: List[str], folder: Path) -> Ran:
+    """The answer of quotes.py on the pages in this folder. The sources are read once for all
+    rows."""
+    out, err, status = io.StringIO(), io.StringIO(), None
+    with contextlib.redirect_stdout(out), contextlib.redirect_stderr(err):
+        try:
+            quotes.main(words, folder)
+        except SystemExit as end:
+            status = int(end.code or 0)
+    return Ran(out.getvalue(), err.getvalue(), status)
+
+
 def refused(old: str, new: str, said: List[str], work: Path) -> None:
     """--write corrects quotes that differ, but nothing else."""
-    shutil.copytree(ROOT / "docs", work / "docs")
-    (work / "gate").mkdir()
-    for name in ("antt.py", "quotes.py"):
-        shutil.copy(ROOT / "gate" / name, work / "gate")
-    for name in ("crates", "crates.txt"):
-        (work / name).symlink_to(ROOT / name)
-    page = work / "docs" / PAGE
+    page = Path(shutil.copytree(quotes.DOCS, work / "docs")) / PAGE
     before = page.read_text()
     want(before.count(old), 1, f"how many times {PAGE} has '{old}'")
     page.write_text(before.replace(old, new))
-    done = run([sys.executable, work / "gate" / "quotes.py"])
+    done = checked([], page.parent)
     want((done.err, done.status), ("", 1 if said else 0),
          f"standard error and status, with {done.out}")
     want([text for text in said if text not in done.out], [], f"what isn't said in {done.out}")
-    mended = run([sys.executable, work / "gate" / "quotes.py", "--write"])
+    mended = checked(["--write"], page.parent)
     is_put_right = not said or "run make quotes" in said
     wanted = (0, True) if is_put_right else (1, False)
     want((mended.status, page.read_text() == before), wanted,
