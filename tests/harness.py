@@ -120,23 +120,30 @@ def started(words: Words, **how: Any) -> Iterator["subprocess.Popen[Any]"]:
             process.kill()
 
 
+def may_become(user: int) -> bool:
+    """Whether root may become this user, which some containers forbid."""
+    try:
+        run(["true"], preexec_fn=lambda: os.setuid(user))
+    except subprocess.SubprocessError:
+        return False
+    return True
+
+
 def by_another(words: Words, work: Path, user: int = 65534,
                before: Callable[[], None] = lambda: None, **how: Any) -> Ran:
     """Runs a program in this folder, as another user if root runs the tests, since root may do
     anything."""
     work.chmod(0o755)
+    is_root = os.getuid() == 0
+    if is_root and not may_become(user):
+        lacking("the superuser can't become another user")
 
     def become_another() -> None:
         before()
-        if os.getuid() == 0:
+        if is_root:
             os.setuid(user)
 
-    try:
-        return run(words, cwd=work, preexec_fn=become_another, **how)
-    except subprocess.TimeoutExpired:
-        raise
-    except (PermissionError, subprocess.SubprocessError):
-        pytest.skip("the superuser can't become another user")
+    return run(words, cwd=work, preexec_fn=become_another, **how)
 
 
 def run_by_another(program: str, words: Words, work: Path) -> Ran:
