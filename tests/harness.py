@@ -5,6 +5,7 @@ as the last argument. pytest runs the rows; conftest.py has its options."""
 import contextlib
 import fcntl
 import functools
+import hashlib
 import os
 import random
 import re
@@ -310,18 +311,33 @@ def sanitizer() -> List[str]:
     return []
 
 
-def for_tests(program: Path, sources: Iterable[Path], *flags: str) -> Path:
+def objects_for_tests(sources: Sequence[Path], words: Sequence[str]) -> List[Path]:
+    """The sources' objects, in a folder for these words, so that programs share them."""
+    helps, command = OUT / "objects", [*(sanitizer() or compiler()), *words]
+    name = hashlib.sha256(shlex.join(command).encode()).hexdigest()[:16]
+    folder, objects = BUILDS / "objects" / name, []
+    headers = [path for place in {helps, *(source.parent for source in sources)}
+               for path in place.glob("*.h")]
+    with alone(folder / "lock"):
+        for source in sources:
+            place = folder / source.parent.name / f"{source.stem}.o"
+            place.parent.mkdir(exist_ok=True)
+            if not is_newer(place, [source, *headers]):
+                compiled(place, [source], "-c", "-I", str(helps), *words, by=sanitizer())
+            objects.append(place)
+    return objects
+
+
+def for_tests(program: Path, sources: Iterable[Path], *flags: str,
+              libraries: Sequence[str] = ()) -> Path:
     """A build that checks its invariants, and reports undefined behaviour if the compiler supports
     that. It is made if it is out of date, or was made by another command."""
-    sources, helps = sorted(sources), OUT / "objects"
-    words = ["-DCHECKED", "-I", str(helps), *flags]
-    words += SANITIZE if sanitizer() else ["-std=c11", "-O1"]
-    folders = {helps, *(path.parent for path in sources)}
+    words = ["-DCHECKED", *flags, *(SANITIZE if sanitizer() else ["-std=c11", "-O1"])]
     with alone(program.with_name(f"{program.name}.lock")) as lock:
-        command = shlex.join([*(sanitizer() or compiler()), *words])
-        headers = [path for folder in folders for path in folder.glob("*.h")]
-        if lock.read() != command or not is_newer(program, [*sources, *headers]):
-            compiled(program, sources, *words, by=sanitizer())
+        objects = objects_for_tests(sorted(sources), words)
+        command = shlex.join([*map(str, objects), *words, *libraries])
+        if lock.read() != command or not is_newer(program, objects):
+            compiled(program, objects, *words, *libraries, by=sanitizer())
             lock.truncate(0)
             lock.write(command)
     return program
@@ -340,16 +356,40 @@ def sources_of(tool: str) -> List[Path]:
 
 @functools.lru_cache(maxsize=None)
 def sanitized_trim() -> Path:
-    return for_tests(SANITIZED_TRIM, sources_of("trim"), "-lmd")
+    return for_tests(SANITIZED_TRIM, sources_of("trim"), libraries=["-lmd"])
 
 
 @functools.lru_cache(maxsize=None)
 def sanitized_explain() -> Path:
     shared = ROOT / "tools" / "trim" / "lines.c"
-    return for_tests(SANITIZED_EXPLAIN, [*sources_of("explain"), shared], "-lmd")
+    return for_tests(SANITIZED_EXPLAIN, [*sources_of("explain"), shared], libraries=["-lmd"])
 
 
 # The answers expected of the checker.
+
+
+# lrupd's default sizes, and sizes for short streams. lrupd fills its row first, which takes 20 ms
+# with the default sizes.
+LINES, ROOM = 65536, 1048576
+SMALL_ROW = ["--lines", "1000", "--room", "10000"]
+
+
+def small(options: Sequence[str]) -> List[str]:
+    """These options of lrupd, with small sizes if they give none."""
+    given = {word.split("=")[0] for word in options}
+    return [*([] if given & {"--lines", "--room"} else SMALL_ROW), *options]
+
+
+def enough_for(streams: Iterable[Union[bytes, Path]], lines: int = LINES,
+               room: int = ROOM) -> List[str]:
+    """Sizes that aren't larger than these streams, or files, need, and with which lrupd says the
+    same as with the given sizes: no identity is above the largest number, and clauses have fewer
+    literals than the streams have spaces."""
+    texts = [text.read_bytes() if isinstance(text, Path) else text for text in streams]
+    most = max((int(number) for text in texts for number in re.findall(rb"\d{1,18}", text)),
+               default=0)
+    spaces = sum(text.count(b" ") for text in texts)
+    return ["--lines", str(min(lines, most)), "--room", str(min(room, spaces))]
 
 
 def report(said: Sequence[str], status: int) -> str:

@@ -5,25 +5,28 @@ mutant. In small proofs of each form, bytes are flipped, cut off, inserted and r
 doubled, swapped and left out, numbers made huge and words replaced by letters. Some formulas and
 files of --other are mutated, too; the filter refuses exactly the formulas that the program refuses.
 The filter is built with -fsanitize=address,undefined, by clang, $CC or cc, and checks its
-invariants. It has to end soon with status 0 and no message, or with status 1 and one line on
-standard error. Its output has to be lines of a stream, by the grammar in this file. The program
-reads each stream that isn't empty, and has to accept it to its end, except for identities beyond
---lines and clauses of streams that aren't there. A mutant that fails is kept in
-out/tests/mutants."""
+invariants; mutants.c forks it for each mutant. It has to end soon with status 0 and no message, or
+with status 1 and one line on standard error. Its output has to be lines of a stream, by the grammar
+in this file. The program reads each stream that isn't empty, and has to accept it to its end,
+except for identities beyond --lines and clauses of streams that aren't there. A mutant that fails
+is kept in out/tests/mutants."""
 import functools
 import os
 import random
 import re
 import shutil
+import signal
 import subprocess
 from pathlib import Path
-from typing import Callable, Iterator, List, Optional, Sequence, Tuple
+from typing import Any, Callable, Iterator, List, Optional, Sequence, Tuple
 
-from harness import (BUILDS, COUNT, FIRST, PROGRAM, SANITIZE, SANITIZED, SANITIZING, Row, example,
-                     lacking, parametrized, run, sanitized_filter, sanitizer, written)
+from harness import (BUILDS, COUNT, EXACT, FIRST, PROGRAM, SANITIZE, SANITIZED, SANITIZING,
+                     SMALL_ROW, TESTS, Ran, Row, enough_for, example, feed, for_tests, lacking,
+                     parametrized, piped, run, sanitized_filter, sanitizer, started, text_of,
+                     written)
 from proof_forms import FORMS, Clause, Step, frat, read_formula, read_steps, varint
 
-KEPT = BUILDS / "mutants"
+KEPT, FORKING = BUILDS / "mutants", BUILDS / "lrup-exact-forking"
 SECONDS = 120
 A_ROW = 100     # mutants per row
 
@@ -169,6 +172,29 @@ class Mutant:
         self.proof = proof
 
 
+# Runs of the filter.
+
+
+@functools.lru_cache(maxsize=None)
+def forking_filter() -> Path:
+    """The filter with the main of mutants.c."""
+    return for_tests(FORKING, [*EXACT.glob("*.c"), TESTS / "mutants.c"],
+                     libraries=["-Wl,--wrap=main"])
+
+
+def filtered(mutant: Mutant, filters: "subprocess.Popen[str]", work: Path) -> Ran:
+    """The answer of a fork, which reads the proof from a pipe or from a file."""
+    given, out, err = (work / name for name in ("given", "out", "err"))
+    if mutant.piped:
+        feed(piped(given), [mutant.proof])
+    assert filters.stdin and filters.stdout
+    print(given if mutant.piped else os.devnull, out, err, *mutant.words, sep="\t",
+          file=filters.stdin, flush=True)
+    status = int(filters.stdout.readline())
+    given.unlink(missing_ok=True)
+    return Ran(*(text_of(path.read_bytes()) for path in (out, err)), status)
+
+
 # What each run has to satisfy.
 
 
@@ -191,7 +217,7 @@ def report_of(mutant: Mutant, text: bytes, work: Path) -> Optional[str]:
     path = written(text, work, "stream")
     streams = [path if number == mutant.stream else "/dev/null"
                for number in range(1, mutant.streams + 1)]
-    done = run([PROGRAM, "--tries", "0", "--lines", "20000", "--room", "100000", mutant.formula,
+    done = run([PROGRAM, "--tries", "0", *enough_for([text], 20000, 100000), mutant.formula,
                 *streams], limit=SECONDS)
     lines = done.out.splitlines()
     if len(lines) <= mutant.streams or not ENDS.fullmatch(lines[mutant.stream - 1]):
@@ -201,18 +227,15 @@ def report_of(mutant: Mutant, text: bytes, work: Path) -> Optional[str]:
 
 def formula_fault(mutant: Mutant, said: str) -> Optional[str]:
     """The filter refuses exactly the formulas that the program refuses."""
-    done = run([PROGRAM, mutant.formula, "/dev/null"], limit=SECONDS)
+    done = run([PROGRAM, *SMALL_ROW, mutant.formula, "/dev/null"], limit=SECONDS)
     if said.startswith(f"lrup-exact: {mutant.formula}") == (done.status == 4):
         return None
     return f"of the formula the program says {done.err or done.out}, and the filter {said}"
 
 
-def fault_of(mutant: Mutant, work: Path) -> Optional[str]:
-    try:
-        out, err, status = run([sanitized_filter(), *mutant.words],
-                               mutant.proof if mutant.piped else None, SECONDS,
-                               env={**os.environ, **SANITIZING})
-    except subprocess.TimeoutExpired:
+def fault_of(mutant: Mutant, filters: "subprocess.Popen[str]", work: Path) -> Optional[str]:
+    out, err, status = filtered(mutant, filters, work)
+    if status == -signal.SIGALRM:
         return f"no end after {SECONDS} seconds"
     one_line = err.startswith("lrup-exact: ") and err.count("\n") == 1 and err.endswith("\n")
     if status not in (0, 1) or (not one_line if status == 1 else err):
@@ -222,10 +245,10 @@ def fault_of(mutant: Mutant, work: Path) -> Optional[str]:
     return fault or (report_of(mutant, text, work) if text else None)
 
 
-def attempt(number: int, work: Path) -> Optional[str]:
+def attempt(number: int, filters: "subprocess.Popen[str]", work: Path) -> Optional[str]:
     """None, or what is wrong."""
     mutant = Mutant(number, proofs(), work)
-    fault = fault_of(mutant, work)
+    fault = fault_of(mutant, filters, work)
     if fault is None:
         return None
     kept = KEPT / str(number)
@@ -234,18 +257,21 @@ def attempt(number: int, work: Path) -> Optional[str]:
     if mutant.piped:
         written(mutant.proof, kept, "proof")
     words = " ".join(word.replace(str(work), str(kept)) for word in mutant.words)
-    return f"mutant {number}: {SANITIZED} {words}{f' < {kept}/proof' * mutant.piped}\n{fault}"
+    given = f" < {kept}/proof" if mutant.piped else ""
+    return f"mutant {number}: {sanitized_filter()} {words}{given}\n{fault}"
 
 
 def mutants(numbers: Sequence[int], work: Path) -> None:
     if not sanitizer():
         lacking(f"the C compiler doesn't build with {SANITIZE[3]}")
     faults = []
-    for number in numbers:
-        folder = work / str(number)
-        folder.mkdir()
-        faults.append(attempt(number, folder))
-        shutil.rmtree(folder)
+    how: Any = {"stdin": subprocess.PIPE, "stdout": subprocess.PIPE, "text": True}
+    with started([forking_filter(), SECONDS], env={**os.environ, **SANITIZING}, **how) as filters:
+        for number in numbers:
+            folder = work / str(number)
+            folder.mkdir()
+            faults.append(attempt(number, filters, folder))
+            shutil.rmtree(folder)
     assert not any(faults), "\n".join(filter(None, faults))
 
 
