@@ -3,7 +3,7 @@ import re
 from pathlib import Path
 from typing import List, Sequence, Tuple, Union
 
-from harness import FILTER, Ran, report, run, want, written
+from harness import FILTER, Ran, enough_for, report, run, want, written
 
 Text = Union[str, bytes]
 FIRST = "5 2 0 1 2 0\n"      # the first line of a proof over the four clauses
@@ -25,7 +25,8 @@ def is_refuting(path: object) -> bool:
 def check(program: str, formula: Path, streams: Sequence[Tuple[object, int]]) -> None:
     """Checks that the formula is refuted, and that each stream has the expected number of
     additions, or fewer if it ends with the empty clause."""
-    done = run([program, "--tries", "1000000", formula, *(path for path, _ in streams)])
+    paths = [Path(str(path)) for path, _ in streams]
+    done = run([program, "--tries", "1000000", *enough_for(paths), formula, *paths])
     *lines, verdict = done.out.splitlines() or [""]
     want((len(lines), verdict, done.status), (len(streams), "s UNSATISFIABLE", 0),
          f"{done.err}the verdict")
@@ -49,5 +50,5 @@ def sorted_hints(text: str) -> List[Tuple[List[str], List[str]]]:
 
 
 def check_report(program: str, formula: Path, text: str, said: str, work: Path) -> None:
-    found = run([program, formula, written(text, work, "exact")]).out
+    found = run([program, *enough_for([text.encode()]), formula, written(text, work, "exact")]).out
     want(found.splitlines()[:1], report([said], 3).splitlines()[:1], "the report")

@@ -2,7 +2,7 @@
 and checkpoints for these proofs, all written by hand; and rows of runs with --rounds."""
 from typing import Dict, Iterator, List, Mapping, NamedTuple, Optional, Sequence, Tuple
 
-from harness import FOUR, Pieces, Wanted, report
+from harness import FOUR, Pieces, Wanted, report, small
 
 Texts = Sequence[Sequence[str]]  # for each round, the texts of its streams
 Named = Tuple[str, Wanted]
@@ -89,7 +89,7 @@ def rounds(name: str, status: int, texts: Texts, out: str = "", err: str = "",
             **{saved_name(number): text for number, text in enumerate(saved, 2)},
             **dict.fromkeys(gone)}
     for way in WAYS:
-        words = [*options.split(), *way.split(), *first_words(texts)]
+        words = [*small(options.split()), *way.split(), *first_words(texts)]
         yield f"{name} {way}", Wanted(words, status, out, err, given, pipes,
                                       shell=f'{do}exec "$@" {how}', left=left)
 

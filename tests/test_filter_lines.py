@@ -5,8 +5,8 @@ from pathlib import Path
 from typing import List
 
 from filtering import FIRST, ONE_OF_TWO, Text, at_place, check, check_report, exact, sorted_hints
-from harness import (COMPRESSED, FILTER, FOUR, PROGRAM, ROOT, Ran, Row, dimacs, parametrized, run,
-                     want, written)
+from harness import (COMPRESSED, FILTER, FOUR, PROGRAM, ROOT, Ran, Row, dimacs, enough_for,
+                     parametrized, run, want, written)
 from proof_forms import code, codes, varint
 
 UNITS = "p cnf 3 4\n1 0\n-1 2 0\n-2 3 0\n-3 -2 0\n"
@@ -38,7 +38,7 @@ def comes_out_with(program: str, formula: str, proof: Text, lines: str, words: L
     streams = [path for path, _ in at_place((written(text, work, "exact"), 0), stream, count)]
     deleted = text.count(" d ")
     added = len(text.splitlines()) - deleted
-    found = run([program, path, *streams]).out
+    found = run([program, *enough_for([text.encode()]), path, *streams]).out
     want(found.splitlines()[stream - 1],
          f"c stream {stream}: {added} added, {deleted} deleted, ended", "the report")
 

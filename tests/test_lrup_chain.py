@@ -13,8 +13,9 @@ import threading
 from pathlib import Path
 from typing import Dict, Iterator, List, Mapping, Optional, Sequence, Tuple
 
-from harness import (FOUR, LIMIT, LRUP_CHAIN, PROGRAM, ROOT, Ran, Row, Wanted, answers, held, needs,
-                     parametrized, piped, report, run, started, until, want, within, written)
+from harness import (FOUR, LIMIT, LRUP_CHAIN, PROGRAM, ROOT, SMALL_ROW, Ran, Row, Wanted, answers,
+                     held, needs, parametrized, piped, report, run, small, started, until, want,
+                     within, written)
 from rounds import ONE, fault, last, round_files, saved_name
 
 SHELLS = [shell for shell in ("dash", "bash", "busybox") if shutil.which(shell)]
@@ -26,6 +27,8 @@ REFUTING = "5 2 0 1 2 0\n7 0 5 3 4 0\n"
 USAGE = ("usage: lrup-chain [--keep] [--lrupd PATH] [--tries N] [--lines N] [--room N] [--assume "
          "FILE] [--serial] [--watch] FORMULA DIR\n       lrup-chain --help | --version\n")
 NO_SIZES = "lrup-chain: d/round-1.sizes: not STREAMS LINES ROOM\n"
+LRUPD = ["--lrupd", PROGRAM]
+IN_SMALL_ROW = [*LRUPD, *SMALL_ROW]
 Named = Tuple[str, Wanted]
 
 
@@ -47,7 +50,9 @@ def left(saved: Mapping[int, str] = {}) -> Dict[str, Optional[str]]:
 def chain(name: str, status: int, streams: Sequence[str], out: str, err: str = "",
           saved: Mapping[int, str] = {}, words: Sequence[str] = (), others: Mapping[str, str] = {},
           shell: str = 'exec "$@"') -> Named:
-    return name, Wanted([*words, "formula", "d"], status, out, err, files(streams, others),
+    """Without a file of sizes, most runs are in a small row."""
+    sized = words if "d/round-1.sizes" in others else small(words)
+    return name, Wanted([*sized, "formula", "d"], status, out, err, files(streams, others),
                         shell=shell, left=left(saved))
 
 
@@ -122,7 +127,7 @@ def sizes() -> Iterator[Named]:
 def refused(text: str, shell: str, script: Path, work: Path) -> None:
     """If anything but two numbers follows the number of streams, lrupd refuses the sizes."""
     lay(work, others={"d/round-1.sizes": text, "d/round-1.stream-2": "", "x": ""})
-    done = run([shell, script, "--lrupd", PROGRAM, "formula", "d"], cwd=work)
+    done = run([shell, script, *LRUPD, "formula", "d"], cwd=work)
     want((done.out, done.status, (work / "d/round-2.cnf").exists()), ("", 2, False),
          f"{done.err}the answer")
 
@@ -152,7 +157,7 @@ def in_the_way() -> Iterator[Named]:
 def unwritten(how: str, shell: str, script: Path, work: Path) -> None:
     """The report can't be written: no verdict, and nothing is removed."""
     lay(work)
-    done = run(["sh", "-c", f'exec "$@" {how}', "sh", shell, script, "--lrupd", PROGRAM, "formula",
+    done = run(["sh", "-c", f'exec "$@" {how}', "sh", shell, script, *IN_SMALL_ROW, "formula",
                 "d"], cwd=work)
     want((done.out, done.status, (work / "d/round-2.cnf").exists()), ("", 7, True),
          f"{done.err}the answer")
@@ -162,7 +167,7 @@ def torn(shell: str, script: Path, work: Path) -> None:
     """Files are limited to the size of round 1's checkpoint; round 2's is larger."""
     streams = [ROUNDS[0], "".join(f"{number} 2 0 4 0\n" for number in range(5, 25)), ROUNDS[2]]
     lay(work, streams)
-    done = run([shell, script, "--lrupd", PROGRAM, "formula", "d"], cwd=work,
+    done = run([shell, script, *IN_SMALL_ROW, "formula", "d"], cwd=work,
                preexec_fn=lambda: within(len(SAVED[0])))
     wanted = last(2, ["20 added, 0 deleted, ended"], 3)
     want(done, Ran(wanted, fault(2, "checkpoint not written"), 9), "the answer")
@@ -189,7 +194,7 @@ def packed(forms: Sequence[str], shell: str, script: Path, work: Path) -> None:
     """A pipe takes each stream's place until the end; the formula may be standard input."""
     names = lay_packed(forms, work)
     for formula in "formula", "/dev/stdin":
-        done = run([shell, script, "--lrupd", PROGRAM, formula, "d"], given=FOUR, cwd=work)
+        done = run([shell, script, *IN_SMALL_ROW, formula, "d"], given=FOUR, cwd=work)
         want((done, sorted(os.listdir(work / "d"))), (Ran(REFUTED, "", 0), names),
              "the answer, and what is left")
 
@@ -200,13 +205,13 @@ def not_unpacked(shell: str, script: Path, work: Path) -> None:
     names = lay_packed(["xz"], work)
     path = work / "d" / names[0]
     path.write_bytes(path.read_bytes()[:40])
-    done = run([shell, script, "--lrupd", PROGRAM, "formula", "d"], cwd=work)
+    done = run([shell, script, *IN_SMALL_ROW, "formula", "d"], cwd=work)
     left_names = sorted(name for name in os.listdir(work / "d") if not name.endswith(".cnf"))
     want((done.out.splitlines()[-1:], done.status, done.err.startswith("xz: "), left_names),
          (["s UNKNOWN"], 3, True, names), "the answer, and what is left")
     for path in (work / "d").glob("*.cnf"):
         path.unlink()
-    done = run([shutil.which(shell), script, "--lrupd", PROGRAM, "formula", "d"], cwd=work,
+    done = run([shutil.which(shell), script, *LRUPD, "formula", "d"], cwd=work,
                env={"PATH": f"{work}"})
     want(done, Ran("", f"lrup-chain: no xz on the PATH for d/{names[0]}\n", 1),
          "the message without xz")
@@ -312,7 +317,7 @@ def endless_sizes(source: str, shell: str, script: Path, work: Path) -> None:
     sizes, pipe = work / "d/round-1.sizes", piped(work / "pipe")
     sizes.symlink_to("/dev/zero" if source == "/dev/zero" else pipe)
     with started(["sh", "-c", f"{source} > pipe"], cwd=work, stderr=subprocess.DEVNULL):
-        done = run([shell, script, "--lrupd", PROGRAM, "formula", "d"], cwd=work, limit=20)
+        done = run([shell, script, *LRUPD, "formula", "d"], cwd=work, limit=20)
     want((done.out, done.status), ("", 2), f"{done.err}the answer")
 
 
@@ -322,7 +327,7 @@ def killed(number: int, by: int, shell: str, script: Path, work: Path) -> None:
     (work / f"d/round-{number}.stream-1").unlink()
     with held(work / f"d/round-{number}.stream-1") as pipe:
         pipe.write(ROUNDS[number - 1].encode())
-        with started([shell, script, "--lrupd", PROGRAM, "formula", "d"], cwd=work,
+        with started([shell, script, *IN_SMALL_ROW, "formula", "d"], cwd=work,
                      stdout=subprocess.PIPE, stderr=subprocess.PIPE, text=True) as running:
             place = Path(f"/proc/{running.pid}/task/{running.pid}/children")
             until("lrupd is there", lambda: (work / f"d/round-{number + 1}.cnf").exists())
@@ -374,8 +379,7 @@ def live(shell: str, script: Path, work: Path) -> None:
 
     writer = threading.Thread(target=write, args=(pipes,), daemon=True)
     writer.start()
-    done = run([shell, script, "--lrupd", PROGRAM, "--tries", "1000000",
-                written(FOUR, work), folder])
+    done = run([shell, script, *IN_SMALL_ROW, "--tries", "1000000", written(FOUR, work), folder])
     writer.join(LIMIT)
     want((done, seen), (Ran(LIVE_SAID, "", 0), LIVE_SAVED), "the answer, and what was saved")
 
@@ -412,7 +416,7 @@ def forged(formula: str, forgery: Optional[str], stream: str, status: int, endin
 
     forger = threading.Thread(target=forge, daemon=True)
     forger.start()
-    done = run([shell, script, "--lrupd", PROGRAM, "--keep", written(formula, work), folder])
+    done = run([shell, script, *IN_SMALL_ROW, "--keep", written(formula, work), folder])
     forger.join(LIMIT)
     want(seen, [formula.replace(f"2 {count}", f"2 {count + 1}", 1) + "2 0\n"], "the checkpoints")
     want(done, Ran(last(2, [f"{int(status == 0)} added, 0 deleted, {ending}"], status), "", status),
@@ -494,7 +498,7 @@ def in_manual(work: Path) -> None:
 
 
 def chained(wanted: Wanted, shell: str, script: Path, work: Path) -> None:
-    answers(shell, wanted._replace(words=[script, "--lrupd", PROGRAM, *wanted.words]), work)
+    answers(shell, wanted._replace(words=[script, *LRUPD, *wanted.words]), work)
 
 
 def rows_of(shell: str) -> List[Row]:

@@ -7,8 +7,8 @@ import sys
 from pathlib import Path
 from typing import Any, Dict, Iterator, List, Tuple
 
-from harness import (FOUR, PROGRAM, ROOT, Pieces, Row, Wanted, Words, answered, answers, example,
-                     parametrized, report, started, want, with_memory, written)
+from harness import (FOUR, PROGRAM, ROOT, SMALL_ROW, Pieces, Row, Wanted, Words, answered, answers,
+                     example, parametrized, report, small, started, want, with_memory, written)
 
 sys.path.append(str(ROOT / "gate"))
 import interface
@@ -34,7 +34,7 @@ BOTH_ADDED = "2 added, 0 deleted, ended"
 
 
 def recorded(name: str, options: str, *files: str) -> Named:
-    """A run of the examples, with the report in NAME.out."""
+    """A run of the examples in a row of the default size, with the report in NAME.out."""
     words = [*options.split(), *map(example, files)]
     return f"{name} {options}", Wanted(words, 0, example(f"{name}.out").read_text())
 
@@ -46,7 +46,7 @@ def streams(name: str, options: str, status: int, *said_and_text: Any,
     said, texts = said_and_text[::2], said_and_text[1::2]
     names = [f"stream{number}" for number in range(1, len(texts) + 1)]
     files = {"formula": formula, **dict(zip(names, texts))}
-    return name, Wanted([*options.split(), "formula", *names], status,
+    return name, Wanted([*small(options.split()), "formula", *names], status,
                         report(said, status), files=files)
 
 
@@ -68,7 +68,7 @@ def refused_formula(fault: str, text: str) -> Named:
 
 def assumed(name: str, status: int, text: str, options: str) -> Named:
     """A stream that derives the clause 2 from two clauses, under the assumptions in this text."""
-    words = ["--assume", "cube", *options.split(), *ASSUMED]
+    words = [*SMALL_ROW, "--assume", "cube", *options.split(), *ASSUMED]
     return f"{name} {options}", Wanted(words, status, report([ADDED], status), files={"cube": text})
 
 
@@ -173,12 +173,13 @@ def pipes() -> Iterator[Named]:
     a file named twice, and a folder."""
     both: Dict[str, Pieces] = {"pipe1": [b"5 2 0 1 2 0\n7", 0.2, b" 0 5 6 0\n"],
                                "pipe2": [b"6 -2 0 3", 0.1, b" 4 0\n"]}
-    yield "two pipes", Wanted(["--tries", "1000000", "formula", "pipe1", "pipe2"], 0,
+    yield "two pipes", Wanted([*SMALL_ROW, "--tries", "1000000", "formula", "pipe1", "pipe2"], 0,
                               report([BOTH_ADDED, ADDED], 0), files=FILES, pipes=both)
     for size in 1, 2:
         pieces = [TWO.encode()[at:at + size] for at in range(0, len(TWO), size)]
         yield f"a pipe, in pieces of {size}", Wanted(
-            ["formula", "pipe"], 0, report([BOTH_ADDED], 0), files=FILES, pipes={"pipe": pieces})
+            [*SMALL_ROW, "formula", "pipe"], 0, report([BOTH_ADDED], 0), files=FILES,
+            pipes={"pipe": pieces})
     said = [ADDED, "0 added, 0 deleted, bad line 1 (identity)"]
     yield "a stream named twice", Wanted(["formula", "one", "one"], 3, report(said, 3), files=FILES)
     unread = report(["0 added, 0 deleted, read failed at line 1"], 3)
@@ -265,7 +266,7 @@ def assumptions() -> Iterator[Named]:
         wide = {"cube": "".join(f"-{number} " for number in range(1, 65536)) + "0\n",
                 "wide": "p cnf 65535 2\n1 2 0\n-1 2 0\n"}
         yield (f"65,535 assumed literals {options}",
-               Wanted([*options.split(), "--assume", "cube", "wide", ASSUMED[1]], 8,
+               Wanted([*SMALL_ROW, *options.split(), "--assume", "cube", "wide", ASSUMED[1]], 8,
                       report([ADDED], 8), files=wide))
     yield "assumed", Wanted(["--assume", CUBE, *ASSUMED], 8, example("assumed.out").read_text())
     empty = report([BOTH_ADDED], 0)
@@ -292,11 +293,11 @@ def watched() -> Iterator[Named]:
     same."""
     said = ["0 added, 0 deleted, bad line 1 (spelling)", "0 added, 0 deleted, ended"]
     lines = "".join(f"lrupd: stream {number}: {words}\n" for number, words in enumerate(said, 1))
-    words = ["--watch", "--serial", "formula", "stream", "/dev/null"]
+    words = [*SMALL_ROW, "--watch", "--serial", "formula", "stream", "/dev/null"]
     yield ("two streams with --serial, watched",
            Wanted(words, 3, report(said, 3), lines, files={"formula": FOUR, "stream": "\n"}))
     for options in WAYS:
-        one = Wanted(["--watch", *options.split(), "formula", "two"], 0,
+        one = Wanted(["--watch", *SMALL_ROW, *options.split(), "formula", "two"], 0,
                      report([BOTH_ADDED], 0), files=FILES)
         yield f"one stream, watched {options}", one._replace(err=f"lrupd: stream 1: {BOTH_ADDED}\n")
         yield (f"a full standard error, watched {options}",
@@ -318,7 +319,8 @@ def large() -> Iterator[Named]:
                       BOTH_ADDED, TWO)
         yield streams(f"200,000 line ends {options}", options, 3,
                       "0 added, 0 deleted, bad line 1 (spelling)", "\n" * 200000)
-        yield streams(f"20,000 lines {options}", options, 3, "20000 added, 0 deleted, ended", lines)
+        yield streams(f"20,000 lines {options}", f"--lines 20000 --room 20000 {options}", 3,
+                      "20000 added, 0 deleted, ended", lines)
 
 
 def largest() -> Iterator[Named]:
@@ -384,9 +386,9 @@ def help_text(program: str, work: Path) -> None:
 
 def many_watched(program: str, work: Path) -> None:
     """The end of each of 64 streams has a line, in any order."""
-    plain = answered(program, Wanted(["formula", *["one"] * 64], 3, files=FILES), work)
-    out, err, status = answered(program,
-                                Wanted(["--watch", "formula", *["one"] * 64], 3, files=FILES), work)
+    words = [*SMALL_ROW, "formula", *["one"] * 64]
+    plain = answered(program, Wanted(words, 3, files=FILES), work)
+    out, err, status = answered(program, Wanted(["--watch", *words], 3, files=FILES), work)
     lines = [line.replace("c ", "lrupd: ", 1) for line in plain.out.splitlines()
             if line.startswith("c ")]
     want((out, sorted(err.splitlines()), status), (plain.out, sorted(lines), 3), "the answer")
@@ -398,7 +400,8 @@ def watched_line_by_line(program: str, words: Words, lines: int, work: Path) -> 
                        "d/round-2.stream-1": "6 0 5 3 4 0\n"}.items():
         written(text, work, name)
     reader, writer = socket.socketpair(socket.AF_UNIX, socket.SOCK_SEQPACKET)
-    with reader, started([program, *words], cwd=work, stdout=subprocess.DEVNULL, stderr=writer):
+    with reader, started([program, *SMALL_ROW, *words], cwd=work, stdout=subprocess.DEVNULL,
+                         stderr=writer):
         writer.close()
         packets = [*iter(lambda: reader.recv(65536), b"")]
     want((len(packets), [packet for packet in packets if packet.find(b"\n") != len(packet) - 1]),

@@ -12,8 +12,9 @@ from typing import Dict, Iterator, List, Optional, Sequence, Tuple
 import pytest
 
 from checkpoints import MOST_CLAUSES, live, most_clauses, printed, variables_of, want_checkpoint
-from harness import (FOUR, PROGRAM, Ran, Row, Wanted, answered, answers, example, held,
-                     parametrized, report, run, run_by_another, want, with_memory, within, written)
+from harness import (FOUR, PROGRAM, SMALL_ROW, Ran, Row, Wanted, answered, answers, enough_for,
+                     example, held, parametrized, report, run, run_by_another, small, want,
+                     with_memory, within, written)
 
 WAYS = ["", "--serial"]
 ONE, TWO = "5 2 0 1 2 0\n", "5 2 0 1 2 0\n6 0 5 3 4 0\n"
@@ -40,7 +41,7 @@ def saved(name: str, status: int, said: Sequence[str], texts: Sequence[str], wan
     names = [f"stream{number}" for number in range(1, len(texts) + 1)]
     files = {"formula": formula, "cube": "-2 0\n", **dict(zip(names, texts))}
     for way in WAYS if serial_too else WAYS[:1]:
-        words = [*options.split(), *way.split(), "--checkpoint", "saved", "formula", *names]
+        words = [*small(options.split()), *way.split(), "--checkpoint", "saved", "formula", *names]
         yield f"{name} {way}", Wanted(words, status, report(said, status), files=files,
                                       left={"saved": wanted, "formula": formula})
 
@@ -115,7 +116,7 @@ def several_streams() -> Iterator[Named]:
                      ["5 d 1 2 0\n", "\n"], SAVED_FOUR)
     for way in WAYS:
         yield (f"a folder as a stream drops nothing {way}", Wanted(
-            [*way.split(), "--checkpoint", "saved", "formula", "dropping", "."], 3,
+            [*SMALL_ROW, *way.split(), "--checkpoint", "saved", "formula", "dropping", "."], 3,
             report(["1 added, 1 deleted, ended", "0 added, 0 deleted, read failed at line 1"], 3),
             files=FILES, left={"saved": SAVED_ONE}))
     many = [f"{number} 2 0 1 2 0\n{number} d 1 0\n" for number in range(5, 69)]
@@ -193,7 +194,7 @@ def watched() -> Iterator[Named]:
 def full() -> Iterator[Named]:
     """No byte of a checkpoint can be written, or the report can't be written."""
     none = 'trap "" XFSZ; ulimit -f 0; exec "$@"'
-    words = ["--checkpoint", "saved", "formula", "one"]
+    words = [*SMALL_ROW, "--checkpoint", "saved", "formula", "one"]
     cube = {**FILES, "cube": "-2 0\n"}
     for way in WAYS:
         unsaved = Wanted([*way.split(), *words], 9, report([ADDED], 3), NOT_WRITTEN, files=FILES,
@@ -221,7 +222,8 @@ def torn(program: str, way: List[str], limit: Optional[int], work: Path) -> None
     formula."""
     formula, whole = example("bmc.cnf"), printed(variables_of(example("bmc.cnf")),
                                                  live(example("bmc.cnf"), [Path("/dev/null")]))
-    path, words = work / "saved", [*way, "--checkpoint", "saved", formula, "/dev/null"]
+    path = work / "saved"
+    words = [*SMALL_ROW, *way, "--checkpoint", "saved", formula, "/dev/null"]
     if limit is None:
         path = work / "disk" / "saved"
         path.parent.mkdir()
@@ -290,10 +292,11 @@ def recorded(program: str, way: str, formula: Path, names: List[str], part: floa
         count = int(part * min(len(example(other).read_text().splitlines()) for other in names))
         streams.append(written("".join(lines[:count]), work, name))
     entries, saved = live(formula, streams), work / "saved"
-    found = run([program, *way.split(), "--checkpoint", saved, formula, *streams])
+    options = [*enough_for(streams), *way.split()]
+    found = run([program, *options, "--checkpoint", saved, formula, *streams])
     want((found.err, found.status, found.out.count(", ended\n")), ("", 3, len(names)), found.out)
     want_checkpoint(saved, printed(variables_of(formula), entries))
-    again = run([program, *way.split(), "--checkpoint", work / "again", saved, "/dev/null"])
+    again = run([program, *options, "--checkpoint", work / "again", saved, "/dev/null"])
     want(again, Ran(report([NOTHING], 3), "", 3), "the answer on what was saved")
     clauses = "".join(line for line in saved.read_text().splitlines(True)
                       if not line.startswith("c"))

@@ -5,9 +5,10 @@ is checked by its own run, with /dev/null in place of the other's streams, and t
 compared with the report on all four."""
 from pathlib import Path
 
-from harness import PROGRAM, Ran, example, parametrized, run, want
+from harness import PROGRAM, Ran, enough_for, example, parametrized, run, want
 
-STREAMS = [str(example(f"two-groups.{number}")) for number in range(1, 5)]
+FILES = [example(f"two-groups.{number}") for number in range(1, 5)]
+STREAMS = list(map(str, FILES))
 NONE = ["/dev/null"] * 2
 
 
@@ -17,7 +18,8 @@ def groups(program: str, work: Path) -> None:
     nothing = [f"c stream {number}: 0 added, 0 deleted, ended" for number in range(1, 5)]
     for streams, report in [(STREAMS[:2] + NONE, lines[:2] + nothing[2:]),
                             (NONE + STREAMS[2:], nothing[:2] + lines[2:]), (STREAMS, lines)]:
-        found = run([program, "--tries", "1000000", example("two-groups.cnf"), *streams])
+        found = run([program, "--tries", "1000000", *enough_for(FILES), example("two-groups.cnf"),
+                     *streams])
         want(found, Ran("\n".join([*report, verdict, ""]), "", 0),
              "the answer on " + " ".join(streams))
 

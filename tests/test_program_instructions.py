@@ -10,7 +10,8 @@ import re
 from pathlib import Path
 from typing import List, Sequence
 
-from harness import PROGRAM, Row, example, needs, parametrized, report, run, want, written
+from harness import (PROGRAM, SMALL_ROW, Row, enough_for, example, needs, parametrized, report, run,
+                     want, written)
 
 FOUR_SOLVERS, LONG_LINES = 6_259_316, 9_082_910
 MARGIN = 0.05
@@ -32,8 +33,9 @@ def counted(program: str, words: Sequence[object], wanted: str) -> int:
 def want_count(program: str, formula: Path, streams: Sequence[Path], wanted: str,
                figure: int) -> None:
     nothing = report(["0 added, 0 deleted, ended"] * len(streams), 3)
-    empty = counted(program, [formula, *[os.devnull] * len(streams)], nothing)
-    count = counted(program, [formula, *streams], wanted) - empty
+    words = [*enough_for(streams), formula]
+    empty = counted(program, [*words, *[os.devnull] * len(streams)], nothing)
+    count = counted(program, [*words, *streams], wanted) - empty
     print(f"{count} instructions, of {figure}, or 5 % more or less")
     assert abs(count - figure) <= MARGIN * figure, "the count differs from the recorded figure"
 
@@ -60,7 +62,7 @@ def assumed(program: str, literals: int, lines: int, work: Path) -> int:
                    "cube")
     stream = written("".join(f"{number} 2 0 1 2 0\n" for number in range(3, 3 + lines)), work,
                      "stream")
-    return counted(program, ["--assume", cube, formula, stream],
+    return counted(program, [*SMALL_ROW, "--assume", cube, formula, stream],
                    report([f"{lines} added, 0 deleted, ended"], 3))
 
 

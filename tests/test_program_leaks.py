@@ -3,20 +3,23 @@ be used."""
 from pathlib import Path
 from typing import Iterator, List, Tuple
 
-from harness import PROGRAM, Row, example, needs, parametrized, run, want, written
+from harness import (PROGRAM, SMALL_ROW, Row, enough_for, example, needs, parametrized, run, want,
+                     written)
 from rounds import ONE, TWO, Texts, first_words, round_files
 
 VALGRIND = ["valgrind", "--quiet", "--error-exitcode=99", "--leak-check=full",
             "--show-leak-kinds=all", "--errors-for-leak-kinds=all"]
 FOUR, FIRST = example("four-clause.cnf"), example("four-clause.lrup")
 SOLVERS = [example(f"bmc-four.{number}") for number in range(1, 5)]
+SIZES = enough_for(SOLVERS)
 RUNS: List[Tuple[int, List[object]]] = [
     (0, [FOUR, FIRST]),
-    (0, ["--tries", "1000000", example("bmc.cnf"), *SOLVERS]),
-    (8, ["--assume", example("assumed.cube"), example("assumed.cnf"), example("assumed.lrup")]),
-    (3, ["--tries", "0", example("bmc.cnf"), *SOLVERS[:2]]),
-    (3, ["--tries", "0", "--checkpoint", "saved", example("bmc.cnf"), *SOLVERS[:2]]),
-    (5, ["--checkpoint", ".", FOUR, FIRST]),
+    (0, ["--tries", "1000000", *SIZES, example("bmc.cnf"), *SOLVERS]),
+    (8, [*SMALL_ROW, "--assume", example("assumed.cube"), example("assumed.cnf"),
+         example("assumed.lrup")]),
+    (3, ["--tries", "0", *SIZES, example("bmc.cnf"), *SOLVERS[:2]]),
+    (3, ["--tries", "0", *SIZES, "--checkpoint", "saved", example("bmc.cnf"), *SOLVERS[:2]]),
+    (5, [*SMALL_ROW, "--checkpoint", ".", FOUR, FIRST]),
     (4, [FIRST, FIRST]),
     (5, [FOUR, FIRST, example("no such file")]),
 ]
@@ -43,7 +46,8 @@ def gives_back_in_rounds(program: str, status: int, options: str, texts: Texts, 
                          work: Path) -> None:
     for name, text in {**round_files(texts), "d/round-2.sizes": sizes}.items():
         written(text, work, name)
-    gives_back(program, status, ["--tries", "1000000", *options.split(), *first_words(texts)], work)
+    words = ["--tries", "1000000", *SMALL_ROW, *options.split(), *first_words(texts)]
+    gives_back(program, status, words, work)
 
 
 def rows(program: str) -> Iterator[Row]:

@@ -11,8 +11,9 @@ from pathlib import Path
 from typing import Any, Callable, Dict, Iterator, List, Sequence
 
 from checkpoints import printed
-from harness import (FOUR, LIMIT, PROGRAM, Ran, Row, Wanted, answered, answers, dimacs, held,
-                     parametrized, piped, read_from, run, started, until, waiting, want, written)
+from harness import (FOUR, LIMIT, PROGRAM, SMALL_ROW, Ran, Row, Wanted, answered, answers, dimacs,
+                     held, parametrized, piped, read_from, run, small, started, until, waiting,
+                     want, written)
 from rounds import (ADDED, BAD, BAD_SAID, DERIVING, NOTHING, ONE, OTHER, REFUTING, SAVED, SAVED_ONE,
                     TRIES, TWO, WAYS, Named, Texts, dropped_first, fault, first_words, last, plain,
                     round_files, rounds, saved_name, stream_name)
@@ -249,7 +250,7 @@ def whole_when_opened(program: str, way: List[str], work: Path) -> None:
     lay(texts[:1], work)
     seen, number = [], 2
     piped(work / "d/round-2.sizes")
-    with started([program, *TRIES.split(), *way, *first_words(texts)], cwd=work,
+    with started([program, *SMALL_ROW, *TRIES.split(), *way, *first_words(texts)], cwd=work,
                  **HEARD) as running:
         for number in 2, 3:
             with read_from(work / f"d/round-{number}.sizes") as pipe:
@@ -297,7 +298,7 @@ def forged(forge: Callable[[Path], None], at: str, program: str, way: List[str],
         text = held_back.read_bytes() if held_back.exists() else b"2 9 9\n"
         held_back.unlink(missing_ok=True)
         piped(held_back)
-        with started([program, *TRIES.split(), *way, *first_words(texts)], cwd=folder,
+        with started([program, *SMALL_ROW, *TRIES.split(), *way, *first_words(texts)], cwd=folder,
                      **HEARD) as running:
             with read_from(held_back) as pipe:
                 want((folder / saved_name(2)).read_text(), SAVED, "the checkpoints")
@@ -313,7 +314,7 @@ def unended_sizes(size: int, program: str, way: List[str], work: Path) -> None:
     lay(ONE.texts, work)
     with held(work / "d/round-2.sizes") as pipe:
         pipe.write(b"1 1 1\n".ljust(size, b"\n"))
-        found = run([program, *way, *first_words(ONE.texts)], cwd=work)
+        found = run([program, *SMALL_ROW, *way, *first_words(ONE.texts)], cwd=work)
         left = waiting(pipe.fileno())
     want((found, left), (Ran("", fault(2, "sizes"), 2), size - 64),
          "the answer, and how much wasn't read")
@@ -325,8 +326,8 @@ def killed(program: str, way: List[str], work: Path) -> None:
     texts, said, saved = TWO
     lay([texts[0], ["", texts[1][1]]], work)
     (work / stream_name(2)).unlink()
-    with held(work / stream_name(2)), started([program, *way, *first_words(texts)], cwd=work,
-                                              **HEARD) as running:
+    words = [program, *SMALL_ROW, *TRIES.split(), *way, *first_words(texts)]
+    with held(work / stream_name(2)), started(words, cwd=work, **HEARD) as running:
         until("the checkpoint of round 2 is created", (work / saved_name(3)).exists)
         running.kill()
         want(running.communicate(timeout=LIMIT), ("", ""), "the output")
@@ -334,7 +335,7 @@ def killed(program: str, way: List[str], work: Path) -> None:
          "the files left")
     lay(texts[1:], work / "next")
     shutil.move(work / saved_name(2), work / "next/formula")
-    found = run([program, *TRIES.split(), *way, *first_words(texts)], cwd=work / "next")
+    found = run(words, cwd=work / "next")
     want(found, Ran(last(2, said[2], 0), "", 0), "the answer of the run that continues")
     want((work / "next" / saved_name(2)).read_text(), saved[1], "its checkpoint")
 
@@ -346,7 +347,8 @@ def watched_rounds(texts: Texts, out: str, lines: Sequence[str], program: str, w
                    work: Path) -> None:
     """With --watch, standard error has these lines; the streams of a round may end in any order."""
     lay(texts, work)
-    found = run([program, "--watch", *TRIES.split(), *way, *first_words(texts)], cwd=work)
+    found = run([program, "--watch", *SMALL_ROW, *TRIES.split(), *way, *first_words(texts)],
+                cwd=work)
     err = re.sub(r"paused for \d+ ms$", "paused", found.err, flags=re.M)
     want((found.out, found.status, in_any_order(err.splitlines())), (out, 0, in_any_order(lines)),
          f"{found.err}the answer")
@@ -373,7 +375,8 @@ def pause(program: str, way: List[str], work: Path) -> None:
     lay(texts, work)
     piped(work / "d/round-2.sizes")
     began, held_back = time.monotonic(), 0.5
-    with started([program, "--watch", *way, *first_words(texts)], cwd=work, **HEARD) as running:
+    with started([program, "--watch", *SMALL_ROW, *way, *first_words(texts)], cwd=work,
+                 **HEARD) as running:
         with read_from(work / "d/round-2.sizes") as pipe:
             time.sleep(held_back)
             pipe.write(b"1 9 9\n")
@@ -406,7 +409,7 @@ def many(count: int, limits: str, options: str, program: str, way: List[str], wo
                      [*([-variable, variable + 1] for variable in range(1, count)), [-count], [1]])
     lay(texts, work)
     written(formula, work, "formula")
-    words = [*way, *options.split(), *first_words(texts)]
+    words = [*way, *small(options.split()), *first_words(texts)]
     found = answered(program, Wanted(words, 0, shell=f'{limits} && exec "$@"'), work)
     want(found, Ran(last(count, [ADDED], 0), "", 0), "the answer")
     left = [(work / saved_name(number)).read_text() for number in range(2, count + 2)]

@@ -10,8 +10,8 @@ import sys
 from pathlib import Path
 from typing import Iterator, List, NamedTuple, Optional, Sequence, Tuple
 
-from harness import (EXAMPLES, PROGRAM, Ran, Row, dimacs, example, parametrized, random_clauses,
-                     run, want, written)
+from harness import (EXAMPLES, PROGRAM, Ran, Row, dimacs, enough_for, example, parametrized,
+                     random_clauses, run, want, written)
 from proof_forms import Clause, read_formula
 from rounds import first_words, saved_name, stream_name
 
@@ -78,7 +78,7 @@ def recorded(formula: Path, names: Sequence[str], count: int, program: str, way:
     for path in (work / "d").glob("*.sizes"):
         path.unlink()
     shutil.copy(formula, work / "formula")
-    options, alone = [*TRIES, *way], Alone([], [])
+    options, alone = [*TRIES, *way, *enough_for(map(example, names))], Alone([], [])
     went_on = [round_alone(program, options, number, len(names), work, alone)
                for number in range(1, count + 1)]
     want((went_on, alone.answers[-1].status), ([True] * (count - 1) + [False], 0),

@@ -7,8 +7,8 @@ from pathlib import Path
 from typing import Any, Dict, Iterator, List
 
 from checkpoints import MOST_CLAUSES, most_clauses
-from harness import (FOUR, PROGRAM, Ran, Row, Wanted, answers, parametrized, run, run_by_another,
-                     want, with_memory, within, written)
+from harness import (FOUR, PROGRAM, SMALL_ROW, Ran, Row, Wanted, answers, parametrized, run,
+                     run_by_another, want, with_memory, within, written)
 from rounds import (ADDED, BAD, BAD_SAID, NOTHING, ONE, OTHER, REFUTING, SAVED, SAVED_ONE, TRIES,
                     TWO, WAYS, Named, dropped_first, fault, first_words, last, round_files, rounds,
                     saved_name, stream_name)
@@ -327,7 +327,7 @@ def torn(number: int, assumed: bool, program: str, way: List[str], work: Path) -
              + [["".join(f"{identity} 2 0 1 2 0\n" for identity in range(5, 25))], [REFUTING]])
     for name, text in {**round_files(texts), "cube": "-2 0\n"}.items():
         written(text, work, name)
-    words = [*way, *["--assume", "cube"] * assumed, *first_words(texts)]
+    words = [*SMALL_ROW, *way, *["--assume", "cube"] * assumed, *first_words(texts)]
     found = run([program, *words], cwd=work, preexec_fn=lambda: within(len(FOUR)))
     out = last(number, ["20 added, 0 deleted, ended"], 8 if assumed else 3)
     want(found, Ran(out, fault(number, "checkpoint not written"), 9), "the answer")
@@ -345,7 +345,7 @@ def without_leave(which: str, cause: str, program: str, work: Path) -> None:
     (work / "d").chmod(0o777)
     (work / which).chmod(0)
     number = int(which[len("d/round-")])
-    found = run_by_another(program, first_words(texts), work)
+    found = run_by_another(program, [*SMALL_ROW, *first_words(texts)], work)
     want(found, Ran("", fault(number, cause), 5), "the answer")
     want_checkpoints(number - 1, work)
 
