@@ -21,8 +21,8 @@ from typing import Callable, Dict, List, NamedTuple, Optional, Sequence, Set, Tu
 
 from faulty import garbled_text, refuted
 from harness import (AGAIN_IF_LATE, COMPRESSED, COUNT, EXAMPLES, EXPLAIN, FOUR, PROGRAM, ROOT,
-                     SANITIZING, Ran, Row, compiler, example, generated, parametrized, piped, run,
-                     sanitized_explain, want, written)
+                     SANITIZING, Ran, Row, compiler, enough_for, example, generated, parametrized,
+                     piped, run, sanitized_explain, want, written)
 from rewriting import cut_while_read, withstands
 from test_filter_mutants import Mutant, proofs
 
@@ -235,6 +235,7 @@ def compared(texts: List[str], options: Sequence[str], formula: Path, clauses: i
     """Compares the faults with those of lrupd --serial."""
     paths = [written(text.encode("latin-1"), work, f"s{place}")
              for place, text in enumerate(texts, 1)]
+    options = options or enough_for(paths)
     done = explain(["--serial", *options, formula, *paths], work, quick)
     want(faults_in(done), reported(run([PROGRAM, "--serial", *options, formula, *paths])),
          f"the faults with {options}, in\n{done.out}")
@@ -313,9 +314,9 @@ def with_threads(seed: int, work: Path) -> None:
                 texts[number] = without_identity(texts[number], str(identity))
     formula = written(found.formula, work)
     paths = [written(text, work, f"s{place}") for place, text in enumerate(texts, 1)]
-    done = explain(["--tries", TRIES, formula, *paths], work)
-    want(faults_in(done), reported(run([PROGRAM, "--tries", TRIES, formula, *paths])),
-         f"the faults in\n{done.out}")
+    words = ["--tries", TRIES, *enough_for(paths), formula, *paths]
+    done = explain(words, work)
+    want(faults_in(done), reported(run([PROGRAM, *words])), f"the faults in\n{done.out}")
 
 
 def mutant(number: int, work: Path) -> None:
@@ -323,8 +324,9 @@ def mutant(number: int, work: Path) -> None:
     found = Mutant(number, proofs(), work)
     names = [written(found.proof, work, "stream") if place == found.stream else Path("/dev/null")
              for place in range(1, found.streams + 1)]
-    said = run([PROGRAM, "--serial", found.formula, *names])
-    done = explain(["--serial", found.formula, *names], work, number % QUICK != 0)
+    words = ["--serial", *enough_for([found.proof]), found.formula, *names]
+    said = run([PROGRAM, *words])
+    done = explain(words, work, number % QUICK != 0)
     if done.status == 1:    # not a formula
         want((done.out, done.err.count("\n"), said.status), ("", 1, 4),
              f"the messages\n{done.err}{said}")

@@ -17,9 +17,9 @@ import sys
 from pathlib import Path
 from typing import Any, Callable, Iterable, List, Sequence, Tuple, Union
 
-from harness import (BUILDS, EXACT, FILTER, ROOT, SANITIZING, TESTS, Row, dimacs, example,
-                     for_tests, needs, parametrized, random_clauses, run, started, unwatched, want,
-                     watched_ends, written)
+from harness import (BUILDS, EXACT, FILTER, ROOT, SANITIZING, TESTS, Row, dimacs, enough_for,
+                     example, for_tests, needs, parametrized, random_clauses, run, started,
+                     unwatched, want, watched_ends, written)
 from lrat import lrat_fault
 from proof_forms import FORMS, read_formula, read_steps
 from solving import PROGRAM, built, solve, want_answer
@@ -46,7 +46,7 @@ def check(formula: Path, text: str, work: Path, stream: int = 1, streams: int = 
     added = sum(" d " not in line for line in text.splitlines())
     paths = [written(text, work, "stream") if number == stream else "/dev/null"
              for number in range(1, streams + 1)]
-    done = run([PROGRAM, "--lines", added + 1, "--room", 4000000, formula, *paths])
+    done = run([PROGRAM, *enough_for([text.encode()], added + 1, 4000000), formula, *paths])
     lines = done.out.splitlines()
     wanted = (f"c stream {stream}: {added} added, "
               f"{text.count(' d ') and lines[stream - 1].split()[5] or 0} deleted, ended")

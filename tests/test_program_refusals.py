@@ -20,8 +20,8 @@ from typing import Dict, Iterator, List, NamedTuple, Optional, Sequence, Set, Tu
 
 import pytest
 
-from harness import (BUILDS, EXAMPLES, FOUR, PROGRAM, ROOT, RT, TESTS, Row, alone, compiled,
-                     parametrized, piped, report, run, waiting, want, written)
+from harness import (BUILDS, EXAMPLES, FOUR, PROGRAM, ROOT, RT, SMALL_ROW, TESTS, Row, alone,
+                     compiled, enough_for, parametrized, piped, report, run, waiting, want, written)
 from refused import (ERRORS_OF_READS, FOUR_CLAUSE, SECONDS, SHORT, Answer, Input, InRounds, Machine,
                      complaints, complaints_in_rounds, is_right, not_started)
 from rounds import ONE, TWO, Proof
@@ -47,6 +47,7 @@ ERRORS_OF_OPENINGS = ["EACCES", "EMFILE", "ELOOP", "ENOENT"]
 ERRORS_OF_CREATIONS = ["EACCES", "EMFILE", "ENOSPC"]
 ERRORS_OF_FLUSHES = ["EIO", "ENOSPC"]
 MANY = 5_000
+MANY_SIZES = ["--lines", str(MANY), "--room", str(10 * MANY)]
 # Both inputs need the same number of allocations: lines need none.
 ONE_LINE, MANY_LINES = "a line and an import", f"{MANY} lines and imports"
 BURDENED = " under assumptions, after a drop"
@@ -129,44 +130,45 @@ def dropped(*said: str, saved: Optional[str] = None) -> List[Answer]:
 
 
 def inputs_of_way(serial: List[str], files: Dict[str, Path], folder: Path) -> Iterator[Input]:
-    """With threads, or with --serial."""
-    kind = "".join(" " + word for word in serial)
-    yield Input("two streams" + kind, [*serial, FOUR_CLAUSE, files["one"], files["other"]], 2)
-    yield Input("a dropped clause" + kind, [*serial, FOUR_CLAUSE, files["dropping"]], 1,
+    """With threads, or with --serial; `row 1` has a row of the default size."""
+    kind, small = "".join(" " + word for word in serial), [*SMALL_ROW, *serial]
+    yield Input("two streams" + kind, [*small, FOUR_CLAUSE, files["one"], files["other"]], 2)
+    yield Input("a dropped clause" + kind, [*small, FOUR_CLAUSE, files["dropping"]], 1,
                 dropped(AT_ONCE))
     yield Input("a dropped clause beside another stream" + kind,
-                [*serial, FOUR_CLAUSE, files["dropping"], files["other"]], 2,
+                [*small, FOUR_CLAUSE, files["dropping"], files["other"]], 2,
                 dropped(AT_ONCE, "1 added, 0 deleted, ended"))
-    yield Input("a drop alone" + kind, [*serial, FOUR_CLAUSE, files["drops"]], 1, dropped(AT_ONCE))
-    yield Input("a drop after a deletion" + kind, [*serial, FOUR_CLAUSE, files["drops_after"]], 1,
+    yield Input("a drop alone" + kind, [*small, FOUR_CLAUSE, files["drops"]], 1, dropped(AT_ONCE))
+    yield Input("a drop after a deletion" + kind, [*small, FOUR_CLAUSE, files["drops_after"]], 1,
                 dropped("1 added, 1 deleted, out of memory at line 2"))
     yield Input("row 1" + kind, [*serial, FOUR_CLAUSE, ROW_ONE], 1)
     yield Input("a dropped clause, watched" + kind,
-                [*serial, "--watch", FOUR_CLAUSE, files["dropping"]], 1, dropped(AT_ONCE))
+                [*small, "--watch", FOUR_CLAUSE, files["dropping"]], 1, dropped(AT_ONCE))
     # These tries take a third of a second if the other stream fails.
-    few = serial or ["--tries", "5000", "--lines", "100", "--room", "100"]
+    few = ["--lines", "100", "--room", "100", *(serial or ["--tries", "5000"])]
     yield Input("imports" + kind,
                 [*few, FOUR_CLAUSE, files["importing"], files["other_importing"]], 2)
     yield Input("assumptions" + kind, [*few, "--assume", CUBE, *ASSUMED], 1)
     yield Input("bad assumptions" + kind, [*few, "--assume", files["bad_cube"], *ASSUMED], 1)
     yield Input("four solvers" + kind,
-                [*(serial or ["--tries", "1000000"]), EXAMPLES / "bmc.cnf", *FOUR_SOLVERS], 4,
-                waits=not serial)
+                [*enough_for(FOUR_SOLVERS), *(serial or ["--tries", "1000000"]),
+                 EXAMPLES / "bmc.cnf", *FOUR_SOLVERS], 4, waits=not serial)
     for name, text in ((ONE_LINE, LINES[0]), (MANY_LINES, "".join(LINES))):
         plain, burdened = (written(text, folder, "plain" + name),
                            written(DROP + text, folder, "burdened" + name))
-        yield Input(name + kind, [*serial, EXAMPLES / "bmc.cnf", plain], 1)
+        words = [*MANY_SIZES, *serial]
+        yield Input(name + kind, [*words, EXAMPLES / "bmc.cnf", plain], 1)
         yield Input(name + BURDENED + kind,
-                    [*serial, "--assume", CUBE, EXAMPLES / "bmc.cnf", burdened], 1,
+                    [*words, "--assume", CUBE, EXAMPLES / "bmc.cnf", burdened], 1,
                     dropped(AT_ONCE))
-    yield Input(FEW_CLAUSES + kind, [*serial, files["few_clauses"], os.devnull], 1)
-    yield Input(MANY_CLAUSES + kind, [*serial, files["many_clauses"], os.devnull], 1)
+    yield Input(FEW_CLAUSES + kind, [*small, files["few_clauses"], os.devnull], 1)
+    yield Input(MANY_CLAUSES + kind, [*small, files["many_clauses"], os.devnull], 1)
 
 
 def checkpoints(serial: List[str], files: Dict[str, Path], folder: Path) -> Iterator[Input]:
     """Runs that save something, and some that have nothing to save, or nowhere to save it."""
     kind = "".join(" " + word for word in serial)
-    words = [*(serial or ["--tries", "5000", "--lines", "100", "--room", "100"]), "--checkpoint",
+    words = ["--lines", "100", "--room", "100", *(serial or ["--tries", "5000"]), "--checkpoint",
              folder / "saved"]
     one = FOUR.replace("2 4", "2 5") + "2 0\n"
     yield Input("a checkpoint after a drop" + kind, [*words, FOUR_CLAUSE, files["dropping_last"]],
@@ -181,7 +183,7 @@ def checkpoints(serial: List[str], files: Dict[str, Path], folder: Path) -> Iter
     yield Input("a checkpoint and a full device" + kind, [*words, FOUR_CLAUSE, os.devnull], 1,
                 out="/dev/full")
     yield Input("a checkpoint where a folder is" + kind,
-                [*serial, "--checkpoint", folder, FOUR_CLAUSE, ROW_ONE], 1)
+                [*SMALL_ROW, *serial, "--checkpoint", folder, FOUR_CLAUSE, ROW_ONE], 1)
     yield Input("a checkpoint and a missing stream" + kind,
                 [*words, FOUR_CLAUSE, folder / "missing"], 1)
 
@@ -206,7 +208,7 @@ def inputs(folder: Path) -> Iterator[Input]:
     yield Input("a bad formula", [files["bad"], ROW_ONE], 1)
     yield Input("missing assumptions", ["--assume", folder / "missing", FOUR_CLAUSE, ROW_ONE], 1)
     yield Input("a missing stream", [FOUR_CLAUSE, folder / "missing"], 1)
-    yield Input("a full device", [FOUR_CLAUSE, ROW_ONE], 1, out="/dev/full")
+    yield Input("a full device", [*SMALL_ROW, FOUR_CLAUSE, ROW_ONE], 1, out="/dev/full")
 
 
 def kinds(given: Input) -> Iterator[Tuple[str, str]]:
@@ -333,7 +335,7 @@ def leave(machine: Machine, folder: Path, count: int) -> Tuple[int, List[str]]:
     for pipe in pipes:
         os.write(pipe, line)
     for number in range(1, 2 * count + 1):
-        answer, _, seconds = machine.run([str(FOUR_CLAUSE), *map(str, paths)],
+        answer, _, seconds = machine.run([*SMALL_ROW, str(FOUR_CLAUSE), *map(str, paths)],
                                          f"thread:{number}", limit=HELD)
         left = [waiting(pipe) for pipe in pipes]
         right = (answer == not_started((number - 1) % count + 1)
