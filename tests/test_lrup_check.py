@@ -20,6 +20,7 @@ from solving import FOR_TESTS, PROGRAM, SOLVE, TESTED, Answer, check_again, in_e
 BMC = ["bmc-four.1", "bmc-four.2", "bmc-four.3", "bmc-four.4"]
 MANY_ROUNDS = {"FIRST_WORDS": 4000, "SAME_WORDS": 1}
 FIRST = "p cnf 2 1\n1 2 0\n"
+UNREADABLE = "/proc/self/mem: it can't be read: Input/output error"
 XOR = dimacs(2, [[1, 2], [-1, 2], [1, -2], [-1, -2]])
 
 
@@ -112,6 +113,18 @@ def side_by_side(work: Path) -> None:
     want([line for line in answer.comments if line.startswith(f"{cut}: ")],
          [f"{cut}: the proof ends without the empty clause"],
          f"the message on the truncated one, in\n{answer.out}")
+
+
+def beside_unreadable(work: Path) -> None:
+    """A read error of one proof, which ends its process, ends no other one: a good proof is checked.
+    Each run is another race."""
+    formula, proof = example("pigeonhole.cnf"), example("pigeonhole.lrup")
+    for proofs in ([proof, "/proc/self/mem"], ["/proc/self/mem", proof]) * 10:
+        answer = check([formula, *proofs])
+        want_proved(answer)
+        # lrupd may have accepted the good proof before the other one is read.
+        want([line for line in answer.comments if "/proc" in line] in ([], [UNREADABLE]), True,
+             f"the comments of\n{answer.out}")
 
 
 def core_and_lrat(work: Path) -> None:
@@ -234,7 +247,8 @@ ROWS: List[Row] = [
     *((f"by {how}", of_solver, FORMS[0], "random 150 1", how)
       for how in ("standard input", "formula from standard input", "a pipe")),
     ("in rounds", in_rounds), ("one stream", one_stream), ("four streams", streams, (1, 2, 3, 4)),
-    ("side by side", side_by_side), ("core and LRAT", core_and_lrat), ("assumptions", assumed),
+    ("side by side", side_by_side), ("beside an unreadable one", beside_unreadable),
+    ("core and LRAT", core_and_lrat), ("assumptions", assumed),
     ("DRUP by hand", by_hand, XOR, "1 0\n0\n"),
     ("LRAT by hand", by_hand, XOR, "5 1 0 1 3 0\n6 0 5 2 4 0\n"),
     ("no empty clause, and one follows", by_hand, XOR, "1 0\n"),

@@ -37,7 +37,7 @@ bool has_cubes(const Shared &shared, const Options &options) {
     return options.shares() && end_of_engines(shared, options) - shared.first_here > 2;
 }
 
-// An engine's part.
+// In an engine's process, up to the first process's part.
 
 Cubes::Cubes(const Engine &given, CaDiCaL::Solver &its_solver)
     : engine(given), solver(its_solver),

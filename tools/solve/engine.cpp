@@ -1,5 +1,5 @@
-// Unverified, like the whole solver. An engine's process: CaDiCaL, what it gives away, and what it
-// takes over.
+// Unverified, like the whole solver. In an engine's process, except `engine_version`: CaDiCaL, what
+// it gives away, and what it takes over.
 //
 // Sharing depends on these rules; without one of them, proofs break silently:
 // - A clause over a variable that this engine eliminated or substituted isn't taken over: CaDiCaL

@@ -1,4 +1,4 @@
-// Unverified, like the whole solver. A filter's process: tools/exact turns an engine's proof into
+// Unverified, like the whole solver. In a filter's process: tools/exact turns an engine's proof into
 // streams, one for each round, and gives clauses away.
 #define _GNU_SOURCE
 #include <errno.h>

@@ -23,8 +23,9 @@ int place = -1, folder_file = -1;           // the parent folder; the folder its
 Pipe life;                                  // closed when this process ends
 pid_t cleaner = 0;
 
-// Removes everything whose name has this beginning, using only descriptors, since a name may lead
-// to another file by now. Closes `file`.
+// In the first process or the cleaner's, like the next three. Removes everything whose name has
+// this beginning, using only descriptors, since a name may lead to another file by now. Closes
+// `file`.
 void remove_within(int file, const std::string &beginning = "") {
     DIR *list = file < 0 ? nullptr : fdopendir(file);
     while (const dirent *entry = list ? readdir(list) : nullptr) {
@@ -54,8 +55,8 @@ void remove_folder() {
     if (is_named(folder_file)) unlinkat(place, last_name.c_str(), AT_REMOVEDIR);
 }
 
-// The front waits for the cleaner. Nothing is put into the folder until the cleaner knows which
-// folder it is.
+// In the cleaner's process. The front waits for the cleaner. Nothing is put into the folder until
+// the cleaner knows which folder it is.
 [[noreturn]] void become_cleaner() {
     struct stat made, found;
     close_all_but({ life.read, place });

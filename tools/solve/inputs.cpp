@@ -30,11 +30,13 @@ thread_local bool is_reader = false;
 int read_file = -1;
 std::string fault;
 
+// In the reading thread.
 void end_reading() {
     uint64_t one = 1;
     while (write(read_file, &one, sizeof one) < 0 && errno == EINTR) {}
 }
 
+// In the reading thread or in the main one.
 void refused(const char *cause) {
     if (!is_reader) the_inputs->refuse_formula(cause);
     fault = cause;
@@ -133,7 +135,7 @@ void Inputs::read(const Meanwhile &meanwhile) {
 // Reading a large formula takes seconds, during which a signal ends the run at once. No process has
 // been started yet.
 void Inputs::read_in_thread(const Meanwhile &meanwhile) {
-    auto begin = [](void *inputs) -> void * {
+    auto begin = [](void *inputs) -> void * {           // in the thread
         is_reader = true;
         static_cast<Inputs *>(inputs)->read_formula();
         end_reading();
@@ -147,7 +149,8 @@ void Inputs::read_in_thread(const Meanwhile &meanwhile) {
     pthread_join(reader, nullptr);
 }
 
-// Reads the formula under a short name, so that messages about it aren't cut off.
+// In the reading thread, if it could be started. Reads the formula under a short name, so that
+// messages about it aren't cut off.
 void Inputs::read_formula() {
     int file = open_input(formula_path);
     formula_read(&formula, (OPEN_FILES + std::to_string(file)).c_str());
@@ -162,7 +165,8 @@ void Inputs::read_formula() {
     if (options.assume) digests += digest_line(assume_path);
 }
 
-// The checkpoint begins with the formula's own clauses, which no round drops.
+// In the reading thread, like its caller. The checkpoint begins with the formula's own clauses,
+// which no round drops.
 void Inputs::read_first_formula(const std::string &path) {
     first_formula = Formula();
     formula_read(&first_formula, path.c_str());

@@ -28,18 +28,22 @@ std::vector<std::string> lines_of(const std::string &text) {
     return lines;
 }
 
+// In the tool's process. Becomes the tool, whose output goes to the file.
+[[noreturn]] void become_tool(const std::vector<std::string> &words, int file) {
+    std::vector<char *> list;
+    for (const std::string &word : words) list.push_back(const_cast<char *>(word.c_str()));
+    list.push_back(nullptr);
+    if (dup2(open("/dev/null", O_RDONLY), 0) < 0 || dup2(file, 1) < 0 || dup2(file, 2) < 0)
+        _exit(127);
+    execv(list[0], list.data());
+    _exit(127);
+}
+
 // Runs a tool; `said` gets what it prints. False if this run is ended meanwhile.
 bool run_tool(const std::vector<std::string> &words, Child &child, std::string &said,
               const Keeping::Wait &wait) {
     int file = file_in_memory();
-    if (begin(child, "tool", { file })) {
-        std::vector<char *> list;
-        for (const std::string &word : words) list.push_back(const_cast<char *>(word.c_str()));
-        list.push_back(nullptr);
-        if (dup2(open("/dev/null", O_RDONLY), 0) < 0 || dup2(file, 1) < 0 || dup2(file, 2) < 0) _exit(127);
-        execv(list[0], list.data());
-        _exit(127);
-    }
+    if (begin(child, "tool", { file })) become_tool(words, file);
     bool goes_on = wait(child);
     said = text_of(file);
     close_file(file);

@@ -10,6 +10,10 @@
 // (teams.cpp), feeds lrupd (checker.cpp), goes from round to round (rounds.cpp), shows progress
 // (display.cpp), and watches all processes. Whatever happens to one of them is an event of the
 // first process's loop (loop.cpp). When the first process ends, all of them end.
+//
+// A function runs in the first process's main thread, unless the comment before it, or at the head
+// of its file, names another process or thread: 'In the saver's process.' Helpers that several of
+// them call, such as those of processes.cpp, run in each of these.
 #include <csignal>
 
 #include <fcntl.h>

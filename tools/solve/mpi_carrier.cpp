@@ -1,6 +1,6 @@
-// Unverified, like the whole solver. A carrier: the one process of a host that uses MPI. It
-// forwards messages, broadcasts the formula, and takes part in exchanges, without reading their
-// contents.
+// Unverified, like the whole solver. In a carrier's process, the one process of a host that uses
+// MPI. It forwards messages, broadcasts the formula, and takes part in exchanges, without reading
+// their contents.
 //
 // Only MPI_Init, the broadcast before engines start, and MPI_Finalize wait for other processes; if
 // a process dies, mpirun ends all. The bytes on their way to others are bounded: above the bound,

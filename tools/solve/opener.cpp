@@ -13,7 +13,7 @@
 
 namespace {
 
-// Reads paths from the socket; an empty one only closes the last pipe.
+// In the opener's process. Reads paths from the socket; an empty one only closes the last pipe.
 [[noreturn]] void open_pipes(int socket) {
     char path[LONGEST_PATH];
     for (int file = -1; recv(socket, path, sizeof path, 0) > 0;) {

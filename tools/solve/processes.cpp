@@ -21,8 +21,8 @@
 
 namespace {
 
-std::vector<pid_t> alive;       // children that haven't been waited for
-std::vector<pid_t> handing_on;  // children that forward signals
+std::vector<pid_t> alive;       // this process's children that haven't been waited for
+std::vector<pid_t> handing_on;  // those of them that forward signals
 std::vector<int> opened;        // this process's files
 const unsigned LETTING_ANOTHER = 30;    // seconds
 
@@ -41,6 +41,7 @@ int kept_open(int file) {
     return file;
 }
 
+// In a child.
 void close_all_but(const std::vector<int> &files) {
     for (int file : opened)
         if (std::find(files.begin(), files.end(), file) == files.end()) close(file);
@@ -49,6 +50,7 @@ void close_all_but(const std::vector<int> &files) {
 bool another_refuses = false;
 void (*as_it_refuses)() = nullptr;
 
+// In any process and thread of the program.
 void refuse(const std::string &cause) {
     if (another_refuses) sleep(LETTING_ANOTHER);
     end_children();
@@ -209,6 +211,7 @@ void Child::signal(int number) const {
     if (running && pid != ELSEWHERE) send(pid, number, hands_on);
 }
 
+// Returns in both processes.
 bool begin(Child &child, const std::string &name, const std::vector<int> &kept) {
     fflush(nullptr);
     pid_t parent = getpid(), pid = fork();
@@ -221,6 +224,8 @@ bool begin(Child &child, const std::string &name, const std::vector<int> &kept) 
         return false;
     }
     as_it_refuses = nullptr;
+    alive.clear();          // they are the parent's children: a refusal here mustn't end them
+    handing_on.clear();
     prctl(PR_SET_PDEATHSIG, SIGKILL);
     prctl(PR_SET_NAME, name.c_str());
     if (getppid() != parent) _exit(1);
@@ -233,7 +238,7 @@ bool begin(Child &child, const std::string &name, const std::vector<int> &kept) 
     return true;
 }
 
-// A run can lose an engine, but not lrupd or the first process. A process may always raise its own
+// In a child. A run can lose an engine, but not lrupd or the first process. A process may always raise its own
 // score; if that fails, the system chooses as usual.
 void give_way() {
     int file = open("/proc/self/oom_score_adj", O_WRONLY | O_CLOEXEC);

@@ -275,9 +275,14 @@ bool is_read_again(const std::string &path) {
     return !is_ours && find(path, found) && (S_ISREG(found.st_mode) || S_ISDIR(found.st_mode));
 }
 
-int open_input(const std::string &path) {
+int open_if_possible(const std::string &path) {
     int file = path == "-" ? -1 : open(path.c_str(), O_RDONLY | O_CLOEXEC);
-    if (file < 0 && is_standard_input(path)) file = fcntl(STDIN_FILENO, F_DUPFD_CLOEXEC, 3);
+    bool is_standard = file < 0 && is_standard_input(path);
+    return is_standard ? fcntl(STDIN_FILENO, F_DUPFD_CLOEXEC, 3) : file;
+}
+
+int open_input(const std::string &path) {
+    int file = open_if_possible(path);
     if (file < 0) refuse(quoted(path) + ": " + error_text());
     return file;
 }

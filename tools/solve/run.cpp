@@ -228,11 +228,13 @@ bool Run::look_at_end(size_t k) {
     Team &team = teams[k];
     const EngineStatus &facts = teams.engine_status(k);
     bool has_ended = team.engine.ended() && (team.filter.ended_with(0) || !team.engine.ended_with(0));
-    if (LOAD(facts.answer) != 0 || facts.cause[0] || !has_ended) return false;
+    bool is_unread = inputs.options.check && has_ended && facts.last_words[0];
+    if (LOAD(facts.answer) != 0 || (facts.cause[0] && !is_unread) || !has_ended) return false;
     bool unfounded = LOAD(facts.unfounded);
     team.idle = !unfounded && LOAD(facts.lines) == 0 && !is_usual(team.engine);
     static const char no_values[] = "it says 'satisfiable', but gives no assignment in lines v";
     std::string end = inputs.options.check ? "it can't be read" : end_of(k);
+    if (is_unread) end += std::string(": ") + facts.last_words;
     tell_lost(k, unfounded ? no_values : end);
     if (LOAD(facts.group)) kill(-LOAD(facts.group), SIGKILL);       // the solver may still run
     return true;

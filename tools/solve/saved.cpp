@@ -156,6 +156,7 @@ std::vector<std::string> SavedRounds::paths() const {
 
 namespace {
 
+// In the saver's process.
 void bring_to_disk(const std::string &name) {
     int file = open_in_record(name);
     if (file < 0) return;
@@ -163,7 +164,8 @@ void bring_to_disk(const std::string &name) {
     close(file);
 }
 
-// Gives a whole file its name once it is on disk; otherwise removes it, and returns the cause.
+// In the saver's process. Gives a whole file its name once it is on disk; otherwise removes it, and
+// returns the cause.
 std::string written(const std::string &path, int file, bool is_whole) {
     const std::string begun = unfinished(path);
     if (is_whole && file >= 0 && fsync(file) == 0 && rename_file(begun, path)) return "";
@@ -172,7 +174,7 @@ std::string written(const std::string &path, int file, bool is_whole) {
     return cause;
 }
 
-// Copies the checkpoint, and finds its digest.
+// In the saver's process. Copies the checkpoint, and finds its digest.
 std::string copy_checkpoint(int file, const std::string &path, std::string &digest) {
     static char bytes[PIECE];
     Digest found;
@@ -215,7 +217,8 @@ void Saver::start() {
     close_file(now.file);
 }
 
-// Once the list names the new checkpoint, the previous one isn't needed any more.
+// In the saver's process. Once the list names the new checkpoint, the previous one isn't needed any
+// more.
 std::string Saver::write() const {
     const std::string path = folder + checkpoint_name(now.round), list = folder + LIST_OF_ROUNDS;
     for (size_t k = on_disk; k < now.digests.size(); k++) bring_to_disk(now.digests[k].substr(BEFORE_NAME));

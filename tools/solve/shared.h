@@ -36,7 +36,8 @@ typedef struct {
     int group;                  // the process group of a user's solver
     int unfounded;              // it says 10 without an assignment
     uint64_t proof_read;        // bytes of an existing proof
-    // the end of a solver's standard error; read it once it has ended
+    // the end of a solver's standard error, or why a proof can't be read; read it once the engine has
+    // ended
     char last_words[LONGEST_CAUSE];
     int ready;                  // it has frozen the variables of cubes
     uint64_t usable;            // bits: the variables of cubes that it froze, and that are open

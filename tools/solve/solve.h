@@ -129,6 +129,7 @@ std::string unfinished(const std::string &path);        // the name until the fi
 void check_input(const std::string &path);              // refuses what can't be read
 // whether other processes can open it, as often as they like
 bool is_read_again(const std::string &path);
+int open_if_possible(const std::string &path);          // an input; -1: see errno
 int open_input(const std::string &path);
 void check_plain(const std::string &path, const std::string &name);     // refuses a compressed file
 struct Place { int folder; std::string name; };         // for openat and the like

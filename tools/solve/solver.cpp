@@ -1,6 +1,6 @@
-// Unverified, like the whole solver. A solver of the user's: a command that the shell runs, in its
-// own process group. An engine's process starts it and reads its answer; the proof goes to the
-// filter, like an engine's.
+// Unverified, like the whole solver. In an engine's process, except `run_shell` and
+// `solver_command`. A solver of the user's: a command that the shell runs, in its own process group.
+// An engine's process starts it and reads its answer; the proof goes to the filter, like an engine's.
 #include <algorithm>
 #include <cctype>
 #include <cerrno>
@@ -109,6 +109,7 @@ private:
     }
 };
 
+// In the solver's process.
 [[noreturn]] void run_shell(const std::string &command, const std::vector<int> &files, int out,
                             int error) {
     setpgid(0, 0);
@@ -178,8 +179,8 @@ int wait_for_solver(pid_t group, int signals, int out, int error, Printed &print
 
 }
 
-// Neither path needs quotes, and both also work within quotes. Inserted paths aren't searched
-// again.
+// In the first process. Neither path needs quotes, and both also work within quotes. Inserted paths
+// aren't searched again.
 std::string solver_command(const std::string &command, const std::string &formula,
                            const std::string &proof) {
     static const std::string names[] = { "%formula", "%proof" };
@@ -226,15 +227,21 @@ void solver_process(const Engine &engine, const std::string &command,
     _exit(127);
 }
 
-// Copies an existing proof, as if a solver had ended with 20.
+// Copies an existing proof, as if a solver had ended with 20. If the proof can't be read, the first
+// process says why.
 void proof_process(const Engine &engine, const std::string &path) {
     std::vector<char> bytes(1 << 16);
-    int file = open_input(path);
+    int file = open_if_possible(path);
     EngineStatus &status = engine.shared->engine_statuses[engine.number - 1];
-    for (ssize_t count; (count = read(file, bytes.data(), bytes.size())) != 0;) {
-        if (count < 0 && errno != EINTR) refuse("cannot read " + path + ": " + error_text());
+    ssize_t count = -1;
+    while (file >= 0 && (count = read(file, bytes.data(), bytes.size())) != 0) {
+        if (count < 0 && errno != EINTR) break;
         if (count > 0 && !write_all(engine.proof, bytes.data(), size_t(count))) _exit(1);
         if (count > 0) STORE(status.proof_read, status.proof_read + uint64_t(count));
+    }
+    if (count < 0) {
+        error_text().copy(status.last_words, LONGEST_CAUSE - 1);
+        _exit(1);
     }
     STORE(status.answer, 20);
     _exit(20);

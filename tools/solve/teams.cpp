@@ -213,6 +213,7 @@ void Teams::start_team(size_t k) {
     close_file(team.proof.write);
 }
 
+// Returns only in the first process.
 void Teams::start_filter(size_t k) {
     Team &team = list[k];
     int number = int(k) + 1;
@@ -260,6 +261,7 @@ void Teams::look_at_proof(size_t k) {
     list[k].command = ::title(path);
 }
 
+// Returns only in the first process.
 void Teams::start_engine(size_t k) {
     Team &team = list[k];
     int number = int(k) + 1, renamed = -1;
