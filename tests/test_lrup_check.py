@@ -116,8 +116,8 @@ def side_by_side(work: Path) -> None:
 
 
 def beside_unreadable(work: Path) -> None:
-    """A read error of one proof, which ends its process, ends no other one: a good proof is checked.
-    Each run is another race."""
+    """A read error of one proof, which ends its process, ends no other one: a good proof is
+    checked. Each run is another race."""
     formula, proof = example("pigeonhole.cnf"), example("pigeonhole.lrup")
     for proofs in ([proof, "/proc/self/mem"], ["/proc/self/mem", proof]) * 10:
         answer = check([formula, *proofs])

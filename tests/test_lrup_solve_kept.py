@@ -21,7 +21,7 @@ from harness import (EXPLAIN, FILTER, FOUR, LRUP_CHAIN, ROOT, TRIM, Ran, Row, by
 from lrat import lrat_fault
 from proof_forms import Clause, read_formula
 from solving import (FOR_TESTS, PROGRAM, SOLVE, Answer, before_lrupd, check_again, command,
-                     in_environment, marked, none_left, solve)
+                     in_environment, in_place_of_lrupd, marked, none_left, solve)
 
 PROVED, PROVED_UNDER = "s UNSATISFIABLE", "s UNSATISFIABLE UNDER ASSUMPTIONS"
 SMALL = {"SAME_WORDS": 1, "SLICE": 40, "FIRST_WORDS": 20000}
@@ -378,6 +378,19 @@ def read_by_tools(formula: Path, work: Path) -> None:
     want(sorted(os.listdir(work / "d")), names, "the files")
 
 
+def packed_and_closed(closing: str, work: Path) -> None:
+    """Streams are unpacked even if a standard stream is closed."""
+    needs("xz")
+    formula = generated("pigeons 5", work)
+    want(solve(["-j", 1, "--proofs", "d", formula], cwd=work).status, 20, "the status")
+    want(run(["xz", work / "d" / "round-1.stream-1"]).status, 0, "the packer's status")
+    for tool in ([TRIM, "--lrat", "proof.lrat"], [EXPLAIN]):
+        done = run(["sh", "-c", f'exec "$@" {closing}', "sh", *tool, formula, "d"], cwd=work)
+        want((done.err, done.status), ("", 0), f"the answer of {tool[0].name} {closing}")
+    want(lrat_fault(read_formula(formula), (work / "proof.lrat").read_text()), "",
+         "the LRAT checker's message")
+
+
 def packed_and_interrupted(number: int, work: Path) -> None:
     """If the check is interrupted, the unpacking programs end, too, even if lrupd hasn't opened
     their pipes yet."""
@@ -618,10 +631,29 @@ def unwritable(words: List[str], said: str, work: Path) -> None:
     want(sorted(os.listdir(work)), before, "the files")
 
 
-def written_into_a_record(work: Path) -> None:
+def replaced_by_none(words: Sequence[object], given: Optional[str], program: Path,
+                     work: Path) -> None:
+    """Nothing of a record with a proof is removed before the inputs and the programs of the run
+    that replaces it are accepted."""
+    formula, record = generated("pigeons 5", work), work / "d"
+    want(solve(["-j", 1, "--proofs", "d"], cwd=work, given=formula.read_text()).status, 20,
+         "the status")
+    before = {path: path.read_bytes() for path in record.iterdir()}
+    for name, text in (("bad", "p cnf 1 1\n2 0\n"), ("packed", "\x1f\x8b garbled"),
+                       ("cubes", "a 99999 0\n"), ("cube", "99999 0\n")):
+        written(text, work, name)
+    in_place_of_lrupd("exit 5", work)
+    done = run([program, "--lrupd", PROGRAM, "--proofs", "d", "--replace", *words], given, cwd=work)
+    want((done.out, done.err.count("\n"), done.status), ("", 1, 1), f"the answer, with {done.err}")
+    want({path: path.read_bytes() for path in record.iterdir()}, before, f"the files: {done.err}")
+    check_again(record)
+
+
+def written_into_a_record(record: str, place: str, work: Path) -> None:
     """The outputs go into the record's folder, which doesn't exist yet."""
-    formula = generated("pigeons 5", work)
-    kept(["-j", 1, "--proofs", "d", formula], formula, work, names=("d/core.cnf", "d/proof.lrat"))
+    formula, place = generated("pigeons 5", work), place.replace("WORK", str(work))
+    kept(["-j", 1, "--proofs", record, formula], formula, work,
+         names=(f"{place}core.cnf", f"{place}proof.lrat"))
 
 
 def on_a_disk(kilobytes: int, words: List[object], tested: Optional[Dict[str, object]],
@@ -728,6 +760,8 @@ def rows() -> List[Row]:
     found += [
         (f"packed, {' and '.join(forms)}{', rounds' if tested else ''}", packed, forms, tested)
         for forms in (["xz"], ["gz"], ["zst"], ["xz", "gz", "zst"]) for tested in (None, SMALL)]
+    found += [(f"packed, with {closing}", packed_and_closed, closing)
+              for closing in ("<&-", "<&- 2>&-")]
     found += [(f"packed, and gets {number.name}", packed_and_interrupted, number)
               for number in (signal.SIGTERM, signal.SIGINT)]
     found += [(f"the first line of {name!r}", first_line_of, name, shown) for name, shown in (
@@ -736,7 +770,23 @@ def rows() -> List[Row]:
     found += [(f"a check that gets {number.name}", check_interrupted, number)
               for number in (signal.SIGTERM, signal.SIGINT, signal.SIGHUP)]
     found += [("a disk that is full of rounds", full_of_rounds),
-              ("sizes that are shown", shown_sizes), ("outputs in a record", written_into_a_record)]
+              ("sizes that are shown", shown_sizes)]
+    check = SOLVE.with_name("lrup-check")
+    found += [(f"replaced by none: {' '.join(map(str, words))}{', ' * bool(given)}{given or ''}",
+               replaced_by_none, words, given, program)
+              for words, given, program in (
+                  (["bad"], None, SOLVE), (["none"], None, SOLVE), (["packed"], None, SOLVE),
+                  ([], "p cnf 1 1\n2 0\n", SOLVE), (["-"], "", SOLVE),
+                  (["--cubes", "cubes", "formula.cnf"], None, SOLVE),
+                  (["--cubes", "none", "formula.cnf"], None, SOLVE),
+                  (["--assume", "cube", "formula.cnf"], None, SOLVE),
+                  (["--solver", "none %formula %proof", "formula.cnf"], None, SOLVE),
+                  (["--lrupd", "./lrupd", "formula.cnf"], None, SOLVE),
+                  (["--lrupd", "./lrupd"], FOUR, SOLVE),
+                  (["formula.cnf", "."], None, check), (["formula.cnf", "none"], None, check))]
+    found += [(f"outputs in a record, {place} in {record}", written_into_a_record, record, place)
+              for record, place in (("d", "d/"), ("./d", "d/"), ("d/", "./d//"), ("d", "WORK/d/"),
+                                    ("d", "d/../d/"))]
     found += [(f"unwritable: {' '.join(words)}", unwritable, words, said) for words, said in (
         (["--core", "none/core"], "cannot write none/core: No such file or directory"),
         (["--proofs", "d", "--core", "none/core"],

@@ -17,13 +17,13 @@ from typing import Callable, List, Mapping, Optional, Sequence, Tuple
 
 import pytest
 
-from harness import (COUNT, FOUR, LIMIT, ROOT, Ran, Row, dimacs, generated, needs, parametrized,
-                     random_clauses, run, started, until, want, written)
+from harness import (COUNT, FOUR, LIMIT, ROOT, TESTS, Ran, Row, compiled, dimacs, generated, needs,
+                     parametrized, random_clauses, run, started, until, want, written)
 from records import (CHANGES, UNKNOWN, checkpoints, recorded, saved_rounds, want_no_other,
                      whole, with_digests)
-from solving import (ANSWERS, EARLY, PROGRAM, SOLVE, Answer, before_lrupd, check_again, children_of,
-                     command, end_all, end_group, in_environment, listed, marked, none_left, solve,
-                     want_answer)
+from solving import (ANSWERS, EARLY, PROGRAM, SOLVE, TESTED, Answer, before_lrupd, check_again,
+                     children_of, command, end_all, end_group, in_environment, listed, marked,
+                     none_left, solve, want_answer)
 
 SMALL = {"SAME_WORDS": 1, "SLICE": 20, "FIRST_WORDS": 4000}
 PROVED = "s UNSATISFIABLE"
@@ -126,6 +126,66 @@ def by_a_pipe(work: Path) -> None:
         answer = solve(["--resume", kept, *words], tested=SMALL, **(how if given else {}))
         want_answer(answer, 20)
         whole(kept, kept / "formula.cnf", work)
+
+
+def spelled(place: str, folder: str, formula: str, cube: str, work: Path) -> None:
+    """The record has the only copies of inputs that came from pipes. They stay, whatever names lead
+    to them."""
+    marked(work)
+    kept, text = work / "kept", generated("pigeons 7", work).read_text()
+    ends = os.pipe()
+    os.write(ends[1], b"1 0\n")
+    os.close(ends[1])
+    words = ["--proofs", kept, *["--assume", f"/dev/fd/{ends[0]}"] * bool(cube)]
+    with started(command(words, SMALL), env=in_environment(SMALL), stdin=subprocess.PIPE,
+                 stdout=subprocess.DEVNULL, pass_fds=[ends[0]]) as running:
+        assert running.stdin
+        running.stdin.write(text.encode())
+        running.stdin.close()
+        until("a round is saved", lambda: saved_rounds(kept) > 1)
+    os.close(ends[0])
+    none_left(f"LRUP_MARK={os.environ['LRUP_MARK']}")
+    for name, target in (("link", kept / "formula.cnf"), ("linked", kept)):
+        (work / name).symlink_to(target)
+    named = [word.replace("WORK", str(work)) for word in (folder, formula, cube)]
+    answer = solve(["--resume", named[0], *["--assume", named[2]] * bool(cube), named[1]],
+                   tested=SMALL, cwd=work / place)
+    want((kept / "formula.cnf").read_text() == text, True, f"the formula, with {answer.said}")
+    want_answer(answer, 20, verdict="s UNSATISFIABLE UNDER ASSUMPTIONS" if cube else None)
+    if cube:
+        return want(((kept / "assumptions").read_text(), run(["sh", kept / "command"]).status),
+                    ("1 0\n", 8), "the assumptions, and the status of the record's check")
+    whole(kept, kept / "formula.cnf", work)
+
+
+def of_the_record(work: Path) -> None:
+    """No other file of the record can be an input, since it would be removed or overwritten."""
+    marked(work)
+    formula, kept = generated("pigeons 7", work), work / "d"
+    recorded(["-j", "2", formula], kept, 1, SMALL)
+    cubes = kept / "round-1.stream-1"
+    (work / "link").symlink_to(cubes)
+    refused(["--resume", "d", "--cubes", "link", formula],
+            "d/round-1.stream-1 would be overwritten: name a copy of it", work)
+
+
+def endless(name: str, how: str, said: str, work: Path) -> None:
+    """A FIFO in the place of a record's text isn't waited for, a device without end isn't read, nor
+    is a file that is larger than memory."""
+    marked(work)
+    formula, path = generated("pigeons 7", work), work / "d" / name
+    recorded(["-j", "2", formula], work / "d", 1, SMALL)
+    path.unlink(missing_ok=True)
+    if how == "a FIFO":
+        os.mkfifo(path)
+    elif how == "/dev/zero":
+        path.symlink_to(how)
+    else:
+        path.touch()
+        os.truncate(path, 1 << 40)
+    answer = solve(["--resume", "d", formula], tested=SMALL, cwd=work, limit=SOON)
+    want((answer.out, answer.said, answer.status), ("", f"lrup-solve: d/{name}{said}\n", 1),
+         "what is said")
 
 
 def moved(work: Path) -> None:
@@ -502,6 +562,30 @@ def unsaved(work: Path) -> None:
     check_again(kept)
 
 
+def not_on_disk(work: Path) -> None:
+    """A round's file that can't be brought to disk may have lost bytes: what was saved before it
+    stays, and a comment says so. Each saver's first call is refused."""
+    marked(work)
+    formula, kept, mark = generated("pigeons 11", work), work / "kept", work / "refused"
+    recorded(["-j", "1", formula], kept, 2, SMALL)
+    rounds, names = saved_rounds(kept), [f"checkpoint-{saved_rounds(kept)}.cnf", "rounds.sha256"]
+    before = {name: (kept / name).read_bytes() for name in names}
+    shim = compiled(work / "refuse.so", [TESTS / "refuse.c"], "-std=gnu11", "-O2", "-shared",
+                    "-fPIC")
+    engines = written(f"#!/bin/sh\nexport LD_PRELOAD={shim} REFUSE=sync:1:EIO MARK={mark}\n"
+                      f"exec {TESTED.with_name('lrup-engines')} \"$@\"\n", work, "engines")
+    engines.chmod(0o755)
+    answer = solve(["--engines", engines, "-j", "1", "--time", "4", "--resume", kept, formula],
+                   tested=SMALL)
+    want((mark.exists(), answer.answers, answer.said), (True, [UNKNOWN], ""),
+         f"the answer of\n{answer.out}")
+    want([line for line in answer.comments if " couldn't be saved: " in line],
+         [f"round {rounds} couldn't be saved: cannot write {kept}/round-1.sizes: Input/output "
+          "error, nor can any later one"], f"what is said, in\n{answer.out}")
+    want({name: (kept / name).read_bytes() for name in names}, before, "what was saved before")
+    want(way_on(answer, kept, formula), (rounds - 1, True), "what is left")
+
+
 def rows(count: int) -> List[Row]:
     found: List[Row] = [(f"killed {seed}", killed, seed) for seed in range(count)]
     under = "s UNSATISFIABLE UNDER ASSUMPTIONS"
@@ -519,6 +603,24 @@ def rows(count: int) -> List[Row]:
                    (signal.SIGHUP, SMALL), (None, {}), (None, SMALL))]
     found += [("in jobs", in_jobs), ("a second signal", second_signal),
               ("saved by the clock", by_the_clock)]
+    found += [(f"--resume {folder} {formula} {cube}".rstrip(), spelled, place, folder, formula,
+               cube)
+              for place, folder, formula, cube in (
+                  ("", "kept", "kept/formula.cnf", ""), ("", "kept/", "kept/formula.cnf", ""),
+                  ("", "kept", "./kept//formula.cnf", ""), ("kept", ".", "formula.cnf", ""),
+                  ("kept", "./", "../kept/formula.cnf", ""), ("", "./kept", "link", ""),
+                  ("", "kept", "WORK/kept/formula.cnf", ""), ("", "linked", "kept/formula.cnf", ""),
+                  ("", "kept", "kept/../kept/formula.cnf", "./kept/assumptions"),
+                  ("kept", "../kept", "formula.cnf", "assumptions"))]
+    found += [("a file of the record as cubes", of_the_record)]
+    long = f" is longer than a run writes it{NOT_RESUMED}"
+    found += [(f"{name} is {how}", endless, name, how, said) for name, how, said in (
+        ("formula.sha256", "a FIFO", f" isn't a regular file{NOT_RESUMED}"),
+        ("formula.sha256", "/dev/zero", f": Too many levels of symbolic links{NOT_RESUMED}"),
+        ("formula.sha256", "long", long), ("rounds.sha256", "long", long),
+        ("rounds.sha256", "a FIFO", f" isn't a regular file{NOT_RESUMED}"),
+        ("files", "long",
+         " is there, but isn't from an earlier run: choose another --proofs"))]
     found += [("by a pipe", by_a_pipe), ("moved", moved), ("nothing saved", nothing_saved),
               ("a slow lrupd", lasting)]
     found += [(f"changed, {ANSWERS[status]}", changed, status, seed) for status in (10, 20)
@@ -529,7 +631,8 @@ def rows(count: int) -> List[Row]:
               for change in FORGED for status in (10, 20)]
     return found + [("another formula", of_another), ("of two runs", of_two),
                     ("saved rounds stay", kept_by_others), ("no formula named", unnamed),
-                    ("can't be saved", unsaved)]
+                    ("can't be saved", unsaved),
+                    ("not on disk", not_on_disk)]
 
 
 pytestmark = pytest.mark.usefixtures("solve_for_tests")     # no row is tried again

@@ -52,37 +52,56 @@ Inputs::Inputs(const Options &given) : options(given) {
 }
 
 // A path from which the input can be read more than once. The front has copied an input that isn't
-// a file on disk; a record keeps that copy.
-std::string Inputs::again(const std::string &path, const std::string &fronts,
-                          const char *kept_as) const {
-    if (is_read_again(path)) return path[0] == '-' ? "./" + path : path;
-    if (!options.proofs) return fronts;
-    std::string copied = std::string(options.proofs) + "/" + kept_as, begun = unfinished(copied);
-    int file = open_input(fronts), copy = create_file(begun);
-    copy_file(file, kept_as, copy);
-    close(file);
-    close_file(copy);
-    if (!rename_file(begun, copied)) refuse("cannot write " + copied + ": " + error_text());
-    return copied;
+// a file on disk.
+static std::string again(const std::string &path, const std::string &fronts) {
+    if (!is_read_again(path)) return fronts;
+    return path[0] == '-' ? "./" + path : path;
 }
 
-// Nothing of an earlier run in the folder is removed until the inputs are read: they may come from
-// that folder, through a pipe.
+// Nothing in the folder is changed yet.
 void Inputs::find() {
     std::vector<std::string> inputs = { options.formula };
     if (options.assume) inputs.push_back(options.assume);
     if (options.cubes) inputs.push_back(options.cubes);
     if (options.check) inputs.insert(inputs.end(), options.solvers.begin(), options.solvers.end());
     for (const std::string &path : inputs) check_input(path);
-    if (options.resumed) find_again();
+    if (options.resumed) find_again(inputs);
     else if (options.proofs) open_record(options.proofs, inputs, options.replace);
-    formula_path = again(inputs[0], front.formula, "formula.cnf");
-    if (options.assume) assume_path = again(inputs[1], front.assumptions, "assumptions");
+    formula_path = again(inputs[0], front.formula);
+    if (options.assume) assume_path = again(inputs[1], front.assumptions);
+}
+
+// Copies the front's copy of an input into the record.
+std::string Inputs::begin_copy(const std::string &path, const char *kept_as) const {
+    std::string copied = std::string(options.proofs) + "/" + kept_as;
+    int file = open_input(path), copy = create_file(unfinished(copied));
+    copy_file(file, kept_as, copy);
+    close(file);
+    close_file(copy);
+    return copied;
+}
+
+static void end_copy(const std::string &copied) {
+    if (!rename_file(unfinished(copied), copied))
+        refuse("cannot write " + copied + ": " + error_text());
+}
+
+void Inputs::keep() {
     if (!options.proofs) return;
+    bool has_formula = formula_path == front.formula,
+         has_assumptions = options.assume && assume_path == front.assumptions;
+    if (has_formula) formula_path = begin_copy(formula_path, COPY_OF_FORMULA);
+    if (has_assumptions) assume_path = begin_copy(assume_path, COPY_OF_ASSUMPTIONS);
+    if (has_formula) end_copy(formula_path);
+    if (has_assumptions) end_copy(assume_path);
     std::vector<std::string> kept = { formula_path, assume_path };
     if (options.resumed) kept.push_back(path_of_digests());
     for (const std::string &path : saved.paths()) kept.push_back(path);
     clear_record(options.proofs, kept);
+    digests = digest_line(digest_of_formula, formula_path);
+    if (options.assume) digests += digest_line(digest_of_assumptions, assume_path);
+    std::string unwritten = write_file(path_of_digests(), digests);
+    if (!unwritten.empty()) refuse(unwritten);
 }
 
 std::string Inputs::path_of_digests() const {
@@ -95,8 +114,9 @@ void Inputs::check_digests() {
     const std::string path = path_of_digests(), name[] = { "formula", "assumptions" };
     if (saved.count() == 0 && !is_there(path)) return;
     const std::string *const files[] = { &front.formula, &front.assumptions };
-    std::string line;
-    std::ifstream lines(path);
+    std::string line, text, fault = read_in_record(path.substr(path.rfind('/') + 1), text);
+    if (!fault.empty() && is_there(path)) refuse(path + fault + NOT_RESUMED);
+    std::istringstream lines(text);
     for (size_t k = 0; k < 1 + size_t(options.assume != nullptr); k++) {
         int file = open_input(*files[k]);
         std::string digest = digest_of(file, name[k]);
@@ -114,10 +134,11 @@ void Inputs::check_digests() {
         refuse(std::string(options.resumed) + " is the record of a run with --assume");
 }
 
-void Inputs::find_again() {
+void Inputs::find_again(const std::vector<std::string> &inputs) {
     open_record_again(options.resumed);
     saved.read(options.resumed);
     check_digests();
+    check_inputs_again(options.resumed, inputs);
 }
 
 void Inputs::read(const Meanwhile &meanwhile) {
@@ -127,9 +148,6 @@ void Inputs::read(const Meanwhile &meanwhile) {
     reading = now() - begun;
     if (options.assume) read_assumptions();
     if (options.cubes) read_cubes();
-    if (!options.proofs) return;
-    std::string unwritten = write_file(path_of_digests(), digests);
-    if (!unwritten.empty()) refuse(unwritten);
 }
 
 // Reading a large formula takes seconds, during which a signal ends the run at once. No process has
@@ -161,8 +179,8 @@ void Inputs::read_formula() {
         read_first_formula(saved.checkpoint());
     }
     if (!options.proofs) return;
-    digests = digest_line(formula_path);
-    if (options.assume) digests += digest_line(assume_path);
+    digest_of_formula = digest_of_file(formula_path);
+    if (options.assume) digest_of_assumptions = digest_of_file(assume_path);
 }
 
 // In the reading thread, like its caller. The checkpoint begins with the formula's own clauses,

@@ -23,6 +23,9 @@ public:
     void find();                                // the inputs' paths; opens the folder of --proofs
     using Meanwhile = std::function<void(int file)>;    // runs until the file can be read
     void read(const Meanwhile &meanwhile);
+    // Keeps in the record what can't be read again, and removes what an earlier run left there. Call
+    // once all inputs are accepted: until then the record stays as it was.
+    void keep();
     void read_formula();
     void read_first_formula(const std::string &path);
     double deadline() const;                    // set by --time; INFINITY without it
@@ -34,13 +37,13 @@ public:
 
 private:
     double started = now();
+    std::string digest_of_formula, digest_of_assumptions;
 
-    void find_again();
+    void find_again(const std::vector<std::string> &inputs);
     std::string path_of_digests() const;
     void check_digests();
     void read_in_thread(const Meanwhile &meanwhile);
-    std::string again(const std::string &path, const std::string &fronts,
-                      const char *kept_as) const;
+    std::string begin_copy(const std::string &path, const char *kept_as) const;
     void read_assumptions();
     void read_cubes();
     bool read_cube(const std::string &line, bool &has_cube);

@@ -144,10 +144,10 @@ std::string Keeping::verdict_on(const Output &output, const Wait &wait) const {
     return goes_on && is_proved && !said.empty() ? lines_of(said).back() : "";
 }
 
+// Whether the output will be a file of the record's folder, which may not exist yet.
 bool Keeping::is_in_record(const std::string &path) const {
     const char *record = inputs.options.record;
-    std::string place = record ? absolute(record) + "/" : "";
-    return record && absolute(path).compare(0, place.size(), place) == 0;
+    return record && folder_of(path) == folder_of(std::string(record) + "/report");
 }
 
 // Creates each output for a moment; those in the record's folder only once the folder exists.
@@ -249,7 +249,8 @@ std::string Keeping::describe(const Checker &checker, uint64_t rounds, const Wai
     text += "verdict: " + (report.empty() ? "" : report.back()) + "\n";
     text += format("record: %s, %s\n", counted(rounds, "round").c_str(),
                    counted(bytes_of_record(), "byte").c_str());
-    text += "\n" + digest_line(checker_program) + digests_of_record(known_digests(checker));
+    text += "\n" + digest_line(digest_of_file(checker_program), checker_program) +
+            digests_of_record(known_digests(checker));
     return write_file(std::string(options.proofs) + "/about", text);
 }
 

@@ -6,6 +6,7 @@
 #include <cstdio>
 #include <cstdlib>
 #include <cstring>
+#include <filesystem>
 
 #include <fcntl.h>
 #include <sys/eventfd.h>
@@ -107,6 +108,13 @@ bool remove_file(const std::string &path) {
 bool rename_file(const std::string &path, const std::string &other) {
     Place from = place_of(path), to = place_of(other);
     return claim(to) && renameat(from.folder, from.name.c_str(), to.folder, to.name.c_str()) == 0;
+}
+
+// Even if the folder doesn't exist yet.
+std::string folder_of(const std::string &path) {
+    std::error_code unknown;
+    std::filesystem::path folder = std::filesystem::absolute(path, unknown).parent_path();
+    return std::filesystem::weakly_canonical(folder / "file", unknown).parent_path();
 }
 
 void create_pipe(const std::string &path) {

@@ -25,26 +25,41 @@ namespace {
 const double ENDING = 10;       // seconds that an earlier run's processes have to end
 const useconds_t PAUSE = 20000;
 const size_t PIECE = 1 << 16;
+const off_t LONGEST_TEXT = 1 << 28;     // bytes of a list or the like, of a record with many rounds
 
 std::string record_name;        // absolute, with a slash
 
-bool is_same(const struct stat &one, const struct stat &other) {
-    return one.st_dev == other.st_dev && one.st_ino == other.st_ino;
-}
+using FileId = std::pair<dev_t, ino_t>;     // names are never compared: a file has many of them
+
+FileId id_of(const struct stat &found) { return { found.st_dev, found.st_ino }; }
 
 bool find(const std::string &path, struct stat &found) {
     Place place = place_of(path);
     return (path == "-" ? fstat(STDIN_FILENO, &found) : fstatat(place.folder, place.name.c_str(), &found, 0)) == 0;
 }
 
+// The files to which these paths lead.
+std::set<FileId> files_at(const std::vector<std::string> &paths) {
+    std::set<FileId> files;
+    struct stat found;
+    for (const std::string &path : paths)
+        if (find(path, found)) files.insert(id_of(found));
+    return files;
+}
+
+bool leads_to(const std::string &path, const std::set<FileId> &files) {
+    struct stat found;
+    return find(path, found) && files.count(id_of(found)) != 0;
+}
+
 bool is_standard_input(const std::string &path) {
-    struct stat found, standard;
-    return path == "-" || (find(path, found) && find("-", standard) && is_same(found, standard));
+    return path == "-" || leads_to(path, files_at({ "-" }));
 }
 
 // The record's files, besides those of rounds.
-const char *const NAMES[] = { "about",          "assumptions", "command",      "formula.cnf",
-                              "formula.sha256", "report",      "rounds.sha256" };
+const char *const NAMES[] = { "about",          COPY_OF_ASSUMPTIONS, "command",
+                              COPY_OF_FORMULA,  "formula.sha256",    "report",
+                              LIST_OF_ROUNDS };
 
 // The list of the record's files begins with its own name. A name is listed before its file is
 // made.
@@ -116,7 +131,7 @@ void read_list(const std::string &path) {
     bool is_ours = list_file >= 0 && fstat(list_file, &found) == 0 && S_ISREG(found.st_mode) &&
                    found.st_nlink == 1 && found.st_uid == geteuid();
     if (!is_ours) refuse_own(path);
-    std::string text = text_of(list_file);
+    std::string text = found.st_size > LONGEST_TEXT ? "" : text_of(list_file);
     size_t begin = 0;
     for (size_t end; (end = text.find('\n', begin)) != std::string::npos; begin = end + 1) {
         std::string name = text.substr(begin, end - begin);
@@ -130,18 +145,18 @@ void read_list(const std::string &path) {
 // Whether the record has a proof, according to lrupd's report.
 bool has_proof() {
     if (listed.count("report") == 0) return false;
-    int file = openat(record_folder, "report", O_RDONLY | O_NOFOLLOW | O_NONBLOCK | O_CLOEXEC);
-    std::string report = "\n" + (file < 0 ? "" : text_of(file));
-    if (file >= 0) close(file);
+    std::string report;
+    read_in_record("report", report);
+    report = "\n" + report;
     return report.find("\ns UNSATISFIABLE") != std::string::npos;
 }
 
 // How many rounds an unfinished run has saved: the list of rounds names a file of sizes for each.
 size_t rounds_to_resume() {
-    int file = listed.count(LIST_OF_ROUNDS) == 0 ? -1 : open_in_record(LIST_OF_ROUNDS);
-    const std::string list = file < 0 ? "" : text_of(file), ending = ".sizes\n";
+    const std::string ending = ".sizes\n";
+    std::string list;
+    if (listed.count(LIST_OF_ROUNDS) != 0) read_in_record(LIST_OF_ROUNDS, list);
     size_t count = 0, at = 0;
-    if (file >= 0) close(file);
     for (; (at = list.find(ending, at)) != std::string::npos; at += ending.size()) count++;
     return count;
 }
@@ -321,14 +336,13 @@ static void check_own(const std::string &folder, const std::vector<std::string> 
 }
 
 void open_record(const std::string &folder, const std::vector<std::string> &inputs, bool replaces) {
-    struct stat input, found;
     if (mkdir(folder.c_str(), 0775) != 0 && errno != EEXIST) refuse("cannot make " + folder + ": " + error_text());
     hold_folder(folder, 0);
     std::vector<std::string> paths = files_of(folder);
+    const std::set<FileId> files = files_at(inputs);
     for (const std::string &path : paths)
-        for (const std::string &name : inputs)
-            if (find(path, found) && find(name, input) && is_same(found, input))
-                refuse(path + " would be overwritten: choose another --proofs");
+        if (leads_to(path, files))
+            refuse(path + " would be overwritten: choose another --proofs");
     read_list(folder + "/" + LIST);
     if (!replaces && has_proof())
         refuse(folder + " has the proof of an earlier run: add --replace, or choose another --proofs");
@@ -350,6 +364,17 @@ void open_record_again(const std::string &folder) {
     check_own(folder, files_of(folder));
 }
 
+// A resumed run's inputs may be the record's own copies, but no other files of the record.
+void check_inputs_again(const std::string &folder, const std::vector<std::string> &inputs) {
+    const std::set<FileId> files = files_at(inputs);
+    for (const std::string &path : files_of(folder)) {
+        std::string name = path.substr(folder.size() + 1);
+        bool is_copy = name == COPY_OF_FORMULA || name == COPY_OF_ASSUMPTIONS;
+        if (!is_copy && leads_to(path, files))
+            refuse(path + " would be overwritten: name a copy of it");
+    }
+}
+
 bool claim(const Place &place) {
     if (place.folder != record_folder || listed.count(place.name) != 0) return true;
     struct stat found;
@@ -361,13 +386,14 @@ bool claim(const Place &place) {
 
 // Removes the record's files, including compressed streams, except those in `kept`.
 void clear_record(const std::string &folder, const std::vector<std::string> &kept) {
+    const std::set<FileId> files = files_at(kept);
     std::set<std::string> left, names = listed;
     for (const auto &form : PACKED)
         for (const std::string &name : listed)
             if (is_of_a_round(name + form.ending)) names.insert(name + form.ending);
     for (const std::string &name : names) {
         std::string path = folder + "/" + name;
-        if (std::find(kept.begin(), kept.end(), path) != kept.end()) left.insert(name);
+        if (leads_to(path, files)) left.insert(name);
         else if (name != LIST && !remove_file(path))
             refuse("cannot remove " + path + ": " + error_text());
     }
@@ -377,6 +403,24 @@ void clear_record(const std::string &folder, const std::vector<std::string> &kep
 // Opens a file of the record for reading.
 int open_in_record(const std::string &name) {
     return openat(record_folder, name.c_str(), O_RDONLY | O_NOFOLLOW | O_NONBLOCK | O_CLOEXEC);
+}
+
+// A FIFO's writer may never come, and a device may have no end.
+std::string fault_of_file(int file) {
+    struct stat found;
+    if (file < 0 || fstat(file, &found) != 0) return ": " + error_text();
+    return S_ISREG(found.st_mode) ? "" : " isn't a regular file";
+}
+
+std::string read_in_record(const std::string &name, std::string &text) {
+    struct stat found;
+    int file = open_in_record(name);
+    std::string fault = fault_of_file(file);
+    if (fault.empty() && fstat(file, &found) == 0 && found.st_size > LONGEST_TEXT)
+        fault = " is longer than a run writes it";
+    if (fault.empty()) text = text_of(file);
+    if (file >= 0) close(file);
+    return fault;
 }
 
 // Removes the files for resuming the run, which has a proof and needs them no longer.
@@ -397,10 +441,10 @@ std::string digests_of_record(const std::vector<std::string> &known) {
         left.erase(line.substr(DIGEST_DIGITS + 2));
     }
     for (const std::string &name : left) {
+        if (name == LIST || name == "about") continue;
         int file = open_in_record(name);
-        if (file < 0 || name == LIST || name == "about") continue;
-        lines += digest_of(file, name) + "  " + name + "\n";
-        close(file);
+        if (fault_of_file(file).empty()) lines += digest_of(file, name) + "  " + name + "\n";
+        if (file >= 0) close(file);
     }
     return lines;
 }
@@ -436,11 +480,16 @@ std::string digest_of(const std::string &text) {
     return digest.end();
 }
 
-// A line in sha256sum's form, which begins with a backslash if bytes of the name are escaped.
-std::string digest_line(const std::string &path) {
+std::string digest_of_file(const std::string &path) {
     int file = open_input(path);
-    std::string name, whole = absolute(path), digest = digest_of(file, path);
+    std::string digest = digest_of(file, path);
     close(file);
+    return digest;
+}
+
+// A line in sha256sum's form, which begins with a backslash if bytes of the name are escaped.
+std::string digest_line(const std::string &digest, const std::string &path) {
+    std::string name, whole = absolute(path);
     for (char letter : whole)
         name += letter == '\\' ? "\\\\" : letter == '\n' ? "\\n" : letter == '\r' ? "\\r" : std::string(1, letter);
     return (name == whole ? "" : "\\") + digest + "  " + name + "\n";

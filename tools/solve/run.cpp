@@ -30,9 +30,11 @@ void Run::prepare() {
     checker.keeps_digests = options.record != nullptr;
     inputs.find();
     keeping.check_outputs(true);
-    teams.open(inputs.saved.count() + 1);
     display.begin();
     inputs.read([this](int file) { await_formula(file); });
+    if (options.replace) await_acceptance();
+    inputs.keep();
+    teams.open(inputs.saved.count() + 1);
     teams.open_models();
     rounds.begin(program);
     loop.begin();
@@ -57,7 +59,23 @@ void Run::await_formula(int file) {
         if (!front.stopped.empty()) why = front.stopped;
     }
     display.end_reading();
-    if (why.empty()) return;
+    if (!why.empty()) end_early(why);
+}
+
+// Waits until lrupd has read the formula, too, which it may refuse: what is replaced can't be had
+// back. Also refuses proofs and solvers that can't be used.
+void Run::await_acceptance() {
+    Child &probe = front.probe.child;
+    front.await_refusal(inputs.deadline());
+    look_at_reading();
+    if (!front.stopped.empty()) end_early(front.stopped);
+    if (probe.running) end_early("time is up, but lrupd hasn't read the formula yet");
+    if (!probe.ended_with(UNKNOWN_STATUS)) end_early("lrupd " + probe.end());
+    teams.check_solvers();
+}
+
+// Ends the run before anything is started.
+void Run::end_early(const std::string &why) {
     display.tell(why);
     Folder::remove();
     _exit(0);
@@ -236,7 +254,8 @@ bool Run::look_at_end(size_t k) {
     std::string end = inputs.options.check ? "it can't be read" : end_of(k);
     if (is_unread) end += std::string(": ") + facts.last_words;
     tell_lost(k, unfounded ? no_values : end);
-    if (LOAD(facts.group)) kill(-LOAD(facts.group), SIGKILL);       // the solver may still run
+    // The engine's process, which was killed, hasn't ended what the solver started.
+    if (LOAD(facts.group)) kill(-LOAD(facts.group), SIGKILL);
     return true;
 }
 

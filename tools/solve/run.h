@@ -49,6 +49,8 @@ private:
 
     void prepare();
     void await_formula(int file);
+    void await_acceptance();
+    [[noreturn]] void end_early(const std::string &why);
     void wait();
     double next_look() const;
     std::vector<Child *> children();

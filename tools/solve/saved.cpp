@@ -36,18 +36,15 @@ std::string stream_name(uint64_t round, size_t number) {
 
 // Opens a file of the record, which has to be a regular one.
 int open_regular(const std::string &path) {
-    struct stat found;
     int file = open_in_record(path.substr(path.rfind('/') + 1));
-    if (file < 0) refuse_file(path + ": " + error_text());
-    if (fstat(file, &found) != 0 || !S_ISREG(found.st_mode))
-        refuse_file(path + " isn't a regular file");
+    std::string fault = fault_of_file(file);
+    if (!fault.empty()) refuse_file(path + fault);
     return file;
 }
 
 std::string read_text(const std::string &path) {
-    int file = open_regular(path);
-    std::string text = text_of(file);
-    close(file);
+    std::string text, fault = read_in_record(path.substr(path.rfind('/') + 1), text);
+    if (!fault.empty()) refuse_file(path + fault);
     return text;
 }
 
@@ -156,12 +153,18 @@ std::vector<std::string> SavedRounds::paths() const {
 
 namespace {
 
-// In the saver's process.
-void bring_to_disk(const std::string &name) {
+// The saver's statuses. If a stream's bytes didn't reach the disk, they may be gone, although the
+// system says so only once. LOST: no later round can be saved, since each would need that stream.
+enum { UNSAVED = 1, LOST = 2 };
+
+// In the saver's process. Returns the cause if the file may not be on disk. EINVAL: the file system
+// can't say.
+std::string bring_to_disk(const std::string &folder, const std::string &name) {
     int file = open_in_record(name);
-    if (file < 0) return;
-    fdatasync(file);
-    close(file);
+    bool is_there = file >= 0 && (fdatasync(file) == 0 || errno == EINVAL);
+    std::string cause = is_there ? "" : "cannot write " + folder + name + ": " + error_text();
+    if (file >= 0) close(file);
+    return cause;
 }
 
 // In the saver's process. Gives a whole file its name once it is on disk; otherwise removes it, and
@@ -193,6 +196,7 @@ std::string copy_checkpoint(int file, const std::string &path, std::string &dige
 
 void Saver::save(uint64_t round, const std::string &record, const std::string &checkpoint,
                  const std::vector<std::string> &all) {
+    if (is_lost) return;
     if (!cause) cause = shared_memory<char>(LONGEST_CAUSE);
     folder = record + "/";
     close_file(next.file);
@@ -210,18 +214,25 @@ void Saver::start() {
     child = Child();
     if (begin(child, "saver", { now.file, record_folder })) {
         give_way();
-        std::string why = write();
+        std::string lost = bring_streams_to_disk(), why = lost.empty() ? write() : lost;
         snprintf(cause, LONGEST_CAUSE, "%s", why.c_str());
-        _exit(!why.empty());
+        _exit(!lost.empty() ? LOST : !why.empty() ? UNSAVED : 0);
     }
     close_file(now.file);
+}
+
+// In the saver's process.
+std::string Saver::bring_streams_to_disk() const {
+    std::string why;
+    for (size_t k = on_disk; k < now.digests.size() && why.empty(); k++)
+        why = bring_to_disk(folder, now.digests[k].substr(BEFORE_NAME));
+    return why;
 }
 
 // In the saver's process. Once the list names the new checkpoint, the previous one isn't needed any
 // more.
 std::string Saver::write() const {
     const std::string path = folder + checkpoint_name(now.round), list = folder + LIST_OF_ROUNDS;
-    for (size_t k = on_disk; k < now.digests.size(); k++) bring_to_disk(now.digests[k].substr(BEFORE_NAME));
     std::string text, digest, why = copy_checkpoint(now.file, path, digest);
     if (!why.empty()) return why;
     for (const std::string &line : now.digests) text += line + "\n";
@@ -229,22 +240,29 @@ std::string Saver::write() const {
     int file = create_if_possible(unfinished(list));
     why = written(list, file, file >= 0 && write_all(file, text.data(), text.size()));
     if (!why.empty()) return why;
-    bring_to_disk(".");
-    if (saved != 0 && saved != now.round) remove_file(folder + checkpoint_name(saved));
-    return "";
+    why = bring_to_disk(folder, ".");
+    if (why.empty() && saved != 0 && saved != now.round)
+        remove_file(folder + checkpoint_name(saved));
+    return why;
+}
+
+void Saver::end_next() {
+    close_file(next.file);
+    next = Work();
 }
 
 std::string Saver::end() {
-    close_file(next.file);
-    next = Work();
+    end_next();
     return look();
 }
 
 std::string Saver::look() {
     if (now.round == 0 || child.running) return "";
-    bool is_saved = child.ended_with(0);
-    std::string why = child.ended_with(1) ? cause : "its process " + child.end();
+    bool is_saved = child.ended_with(0), has_cause = child.ended_with(UNSAVED);
+    is_lost = child.ended_with(LOST);
+    std::string why = has_cause || is_lost ? cause : "its process " + child.end();
     std::string line = "round " + std::to_string(now.round - 1) + " couldn't be saved: " + why;
+    if (is_lost) end_next(), line += ", nor can any later one";
     if (is_saved) saved = now.round, on_disk = now.digests.size();
     now = Work();
     if (next.round != 0) start();

@@ -63,8 +63,11 @@ private:
     std::string folder;                 // with a slash
     size_t on_disk = 0;                 // how many of the digests' files are on disk
     char *cause = nullptr;              // from the process
+    bool is_lost = false;               // a saved stream isn't on disk
 
     void start();
+    void end_next();
+    std::string bring_streams_to_disk() const;
     std::string write() const;
 };
 

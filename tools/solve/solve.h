@@ -64,6 +64,7 @@ int create_file(const std::string &path);  // a new file; an old one of that nam
 int create_if_possible(const std::string &path);        // like that, but -1 if it fails
 bool remove_file(const std::string &path);              // also true if there is none
 bool rename_file(const std::string &path, const std::string &other);
+std::string folder_of(const std::string &path);         // a file's, without links and detours
 void create_pipe(const std::string &path);
 // for writing, and removes its name; -1 if nobody reads it
 int open_pipe(const std::string &path, int bytes);
@@ -135,20 +136,27 @@ void check_plain(const std::string &path, const std::string &name);     // refus
 struct Place { int folder; std::string name; };         // for openat and the like
 
 const char LIST_OF_ROUNDS[] = "rounds.sha256";
+// inputs that can't be read again
+const char COPY_OF_FORMULA[] = "formula.cnf", COPY_OF_ASSUMPTIONS[] = "assumptions";
 extern int record_folder;                               // open; -1: none
 Place place_of(const std::string &path);  // files of the record are named relative to record_folder
 // Refuses to write over these inputs.
 void open_record(const std::string &folder, const std::vector<std::string> &inputs, bool replaces);
 void open_record_again(const std::string &folder);      // of a resumed run
+void check_inputs_again(const std::string &folder, const std::vector<std::string> &inputs);
 // of an earlier run
 void clear_record(const std::string &folder, const std::vector<std::string> &kept);
 int open_in_record(const std::string &name);            // -1: it can't be opened
+std::string fault_of_file(int file);                    // for a message; "": a regular file
+// the same; a text isn't longer than a run can have written it
+std::string read_in_record(const std::string &name, std::string &text);
 void remove_checkpoints(const std::string &folder);     // of a run that needs them no longer
 bool claim(const Place &place);                         // before making a file; false: see errno
 bool is_there(const std::string &path);
 std::string digest_of(int file, const std::string &path);
 std::string digest_of(const std::string &text);
-std::string digest_line(const std::string &path);       // of the file, for a record
+std::string digest_of_file(const std::string &path);
+std::string digest_line(const std::string &digest, const std::string &path);    // for a record
 std::string digests_of_record(const std::vector<std::string> &known);   // of all its files
 uint64_t bytes_of_record();
 uint64_t free_bytes();                                  // where the record is

@@ -250,15 +250,32 @@ std::string Teams::solver_line(size_t k, int &renamed) const {
 }
 
 // The proof is opened later, by its own process, which may have to wait for a pipe's writer.
-void Teams::look_at_proof(size_t k) {
+static struct stat look_at_proof(const char *path) {
     struct stat found;
-    const char *path = inputs.options.solvers[k];
     bool is_standard = strcmp(path, "-") == 0;
     if ((is_standard ? fstat(STDIN_FILENO, &found) : stat(path, &found)) != 0)
         refuse(::title(path) + ": " + error_text());
     if (S_ISDIR(found.st_mode)) refuse(::title(path) + " is a folder");
-    if (S_ISREG(found.st_mode)) list[k].proof_size = uint64_t(found.st_size);
-    list[k].command = ::title(path);
+    return found;
+}
+
+// Whether the shell finds the command's first word; true if that isn't clear without running it.
+static bool is_command(const std::string &command) {
+    size_t begin = command.find_first_not_of(" \t\n"), end = command.find_first_of(" \t\n", begin);
+    if (begin == std::string::npos) return true;
+    std::string word = command.substr(begin, end - begin);
+    bool is_name = is_plain(word) && word.find('=') == std::string::npos;
+    return !is_name || system(("command -v -- " + word + " > /dev/null 2>&1").c_str()) == 0;
+}
+
+// Refuses a proof that can't be read, and solvers of which none can be run.
+void Teams::check_solvers() const {
+    const Options &options = inputs.options;
+    bool any = size_t(options.engines) > options.solvers.size();
+    for (const char *solver : options.solvers)
+        if (options.check) look_at_proof(solver), any = true;
+        else any = any || is_command(solver);
+    if (!any) refuse("nothing could run: " + quoted(options.solvers[0]) + ": command not found");
 }
 
 // Returns only in the first process.
@@ -270,8 +287,11 @@ void Teams::start_engine(size_t k) {
                       number,          team.proof.write };
     std::vector<int> files = { team.proof.write };
     bool is_proof = inputs.options.check;
-    if (is_proof) look_at_proof(k);
-    else if (is_solver(k)) team.command = solver_line(k, renamed);
+    if (is_proof) {
+        struct stat found = look_at_proof(inputs.options.solvers[k]);
+        if (S_ISREG(found.st_mode)) team.proof_size = uint64_t(found.st_size);
+        team.command = ::title(inputs.options.solvers[k]);
+    } else if (is_solver(k)) team.command = solver_line(k, renamed);
     if (renamed >= 0) files.push_back(renamed);
     team.engine.hands_on = is_solver(k) && !is_proof;
     if (!begin(team.engine, "engine " + std::to_string(number), files)) return close_file(renamed);

@@ -49,7 +49,8 @@ public:
     bool have_all(uint64_t EngineStatus::*field, uint64_t wanted) const;  // for all running filters
     std::vector<Child *> children();
 
-    void open(uint64_t round);          // before the formula is read; round: this run's first round
+    void check_solvers() const;         // before anything is replaced
+    void open(uint64_t round);          // round: this run's first round
     void open_models();                 // after the formula is read
     void set_here(int first, int count);    // other engines are on other hosts
     void start(bool is_first_alone);    // if so, the others start a moment later
@@ -90,7 +91,6 @@ private:
     void start_filter(size_t k);
     void start_engine(size_t k);
     std::string solver_line(size_t k, int &renamed) const;
-    void look_at_proof(size_t k);
     bool is_a_stream(size_t k) const;
     void find_streams();
     void find_beginning();
