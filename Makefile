@@ -41,7 +41,8 @@ OPTIONS ?= --tries 1000000
 	rounds demo solver exact trim explain solve solve-mpi scripts tools solver-test filter-test \
 	trim-test building peers hol explain-test solve-test days neighbours sweep leaks \
 	instructions quotes promises pages test gate toolchain c-and-python libcadical libmd mpicxx \
-	help try deb dist quick edits packages warnings builds shown quotes-test pytest rows
+	help try deb dist quick edits packages warnings builds shown quotes-test pytest rows \
+	unmarked
 
 help:
 	@awk -f gate/help.awk $(firstword $(MAKEFILE_LIST))
@@ -151,7 +152,18 @@ $(BIN)/lrup-chain: tools/lrup-chain
 # that compiles it. Programs are replaced, not overwritten, since they may be running.
 in_order = $(patsubst %,$(OBJECTS)/%.o,$(basename $(1)))
 VERSIONED = -DVERSION='"$(VERSION)"'
-COMPILE_C = $(CC) -std=c11 $(WARNINGS) $(VERSIONED) -I $(OBJECTS) $(CPPFLAGS) $(CFLAGS)
+C_COMPILER = $(CC) -std=c11 $(WARNINGS) $(VERSIONED) -I $(OBJECTS)
+COMPILE_C = $(C_COMPILER) $(CPPFLAGS) $(CFLAGS)
+# The front is trusted, so a fault in its memory should end it. Flags of the user come later, and so
+# win; what can't be combined with them is left out.
+USERS_FLAGS = $(CPPFLAGS) $(CFLAGS) $(LDFLAGS)
+OPTIMIZES = $(filter-out -O0,$(lastword $(filter -O%,$(CFLAGS))))
+FORTIFIED = $(if $(OPTIMIZES),$(if $(findstring _FORTIFY_SOURCE,$(USERS_FLAGS)),, \
+	-U_FORTIFY_SOURCE -D_FORTIFY_SOURCE=2))
+FIXED = $(filter -static% -no-pie -fno-pie -fno-PIE -fno-pic -fno-PIC,$(USERS_FLAGS))
+PROTECTED = -fstack-protector-strong $(FORTIFIED) $(if $(FIXED),,-fPIE)
+PROTECTED_LINK = -Wl,-z,relro,-z,now $(if $(FIXED),,-pie)
+COMPILE_FRONT = $(C_COMPILER) $(PROTECTED) $(CPPFLAGS) $(CFLAGS)
 COMPILE_CXX = -std=c++17 $(WARNINGS) $(VERSIONED) -DKIT='"$(KIT)"' -I $(OBJECTS) \
 	$(CPPFLAGS) $(CXXFLAGS)
 LINK = mkdir -p $(dir $@) && \
@@ -166,7 +178,7 @@ $(TRIM): $(call in_order,$(wildcard tools/trim/*.c) $(FILTER))
 $(EXPLAIN): $(call in_order,$(wildcard tools/explain/*.c) tools/trim/lines.c $(FILTER))
 	@$(call LINK,$(CC),$(CFLAGS),-lmd)
 $(SOLVE): $(call in_order,$(wildcard tools/solve/front/*.c))
-	@$(call LINK,$(CC),$(CFLAGS))
+	@$(call LINK,$(CC) $(PROTECTED_LINK),$(CFLAGS))
 $(ENGINES): $(call in_order,$(ALONE) $(wildcard tools/solve/*.c) $(FILTER))
 	@$(call LINK,$(CXX),$(CXXFLAGS) -pthread,-lcadical -lmd)
 WITH_MPI := $(filter-out tools/solve/alone.cpp,$(wildcard tools/solve/*.cpp tools/solve/*.c))
@@ -176,6 +188,8 @@ $(ENGINES)-mpi: $(call in_order,$(WITH_MPI) $(FILTER))
 $(OBJECTS)/tools/trim/lines.o: | libmd
 $(OBJECTS)/%.o: %.c $(OBJECTS)/flags
 	@mkdir -p $(dir $@) && $(COMPILE_C) -I tools/exact -MMD -MP -c -o $@ $<
+$(OBJECTS)/tools/solve/front/%.o: tools/solve/front/%.c $(OBJECTS)/flags
+	@mkdir -p $(dir $@) && $(COMPILE_FRONT) -MMD -MP -c -o $@ $<
 $(OBJECTS)/tools/solve/mpi_%.o: tools/solve/mpi_%.cpp $(OBJECTS)/flags \
 	| mpicxx libcadical libmd
 	@mkdir -p $(dir $@) && OMPI_CXX="$(CXX)" mpicxx $(COMPILE_CXX) -MMD -MP -c -o $@ $<
@@ -192,7 +206,7 @@ FAULTS = $(OBJECTS)/lrup-explain.faults.h
 $(FAULTS): crates/stream_check/specs/Faults.antt tools/faults.awk
 	@mkdir -p $(dir $@) && awk -f $(filter %.awk,$^) $< > $@
 $(OBJECTS)/tools/explain/tell.o: $(FAULTS)
-$(OBJECTS)/tools/solve/options.o: $(HELPS)
+$(OBJECTS)/tools/solve/front/front.o: $(HELPS)
 
 # Functions that the two scripts for checking a record share.
 $(OBJECTS)/packed.sh.h: tools/lrup-chain
@@ -203,7 +217,8 @@ $(OBJECTS)/tools/solve/rounds.o: $(OBJECTS)/packed.sh.h
 # Files with the compilers' commands, rewritten only when these change.
 $(OBJECTS)/flags: FORCE | c-and-python
 	@mkdir -p $(dir $@) && \
-	echo '$(subst ','\'',$(COMPILE_C) $(CXX) $(COMPILE_CXX) $(LDFLAGS) $(LDLIBS))' > $@.new && \
+	echo '$(subst ','\'',$(COMPILE_FRONT) $(PROTECTED_LINK) $(CXX) $(COMPILE_CXX) $(LDFLAGS) \
+	$(LDLIBS))' > $@.new && \
 	{ cmp -s $@.new $@ && rm $@.new || mv $@.new $@; }
 FORCE:
 -include $(wildcard $(OBJECTS)/*/*/*.d $(OBJECTS)/*/*/*/*.d)
@@ -213,8 +228,9 @@ IN_C := $(addprefix tools/,exact trim explain) examples/solver
 C_SOURCES := $(wildcard $(addsuffix /*.c,$(IN_C) tools/solve tools/solve/front tests))
 C_HEADERS := $(wildcard $(addsuffix /*.h,$(IN_C))) \
 	$(addprefix tools/solve/,shared.h test_hooks.h front/supervisor.h)
-STRICT = -std=c11 $(WARNINGS) -Werror -O2 -fsyntax-only -I tools/exact -I $(OBJECTS) -x c
-warnings: c-and-python libmd $(HELPS) $(FAULTS) ## check: C compiles without a warning, and each header by itself
+STRICT = -std=c11 $(WARNINGS) -Werror -O2 -fsyntax-only $(VERSIONED) -I tools/exact \
+	-I $(OBJECTS) -I $(OBJECTS) -x c
+warnings: c-and-python libmd $(HELPS) $(HELPS_OF_SOLVE) $(FAULTS) ## check: C compiles without a warning, and each header by itself
 	@for compiler in $(firstword $(CC)) clang; do command -v $$compiler > /dev/null || continue; \
 	$$compiler $(STRICT) $(C_SOURCES) || exit 1; \
 	for file in $(C_HEADERS); do \
@@ -243,6 +259,9 @@ rows: ## check: all tests of programs, without proofs but for the program's own;
 examples live checkpoints rounds neighbours sweep leaks instructions solver-test filter-test \
 trim-test explain-test solve-test shown quotes-test builds rows: $(BUILT) tools pytest
 	@python3 gate/tests.py --program $(PROGRAM) --pytest '$(PYTEST)' --rt '$(RT)' $(TESTS) -- $(MORE)
+
+unmarked: $(BUILT) pytest ## check: lrup-solve's front without each statement that isn't marked as trusted, in some hours
+	@python3 gate/tests.py --program $(PROGRAM) --pytest '$(PYTEST)' lrup_solve_trusted -- -m nightly
 
 # Uses larger formulas than the gate does. SEED determines the formulas, and is printed.
 MINUTES ?= 60

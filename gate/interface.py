@@ -64,7 +64,7 @@ FIGURES = [
     ("the usual --memory", [f"{READER}/row.c USUAL_MEMORY (?)"], f"{USING} {SOLVE} {EXACT}"),
     ("the most --memory", [f"{READER}/main.c more than ? bytes:"],
      f"{SOLVE} {EXACT} tools/solve/options.cpp"),
-    ("bytes of a formula from a pipe", [f"{FRONT} more than lrupd's limit of ? bytes"], SOLVE),
+    ("bytes of a formula from a pipe", [f"{FRONT} more than ? bytes, which"], SOLVE),
 ]
 
 

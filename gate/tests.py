@@ -131,9 +131,11 @@ class Run:
     def start_tests(self, name: str, nice: int) -> None:
         self.todo.remove(name)
         options = self.options
-        left_out = {"build": ["-m", "not long and not of_crates"], "ci": ["-m", "not long"]}
+        left_out = {"build": ["-m", "not long and not nightly and not of_crates"],
+                    "ci": ["-m", "not long and not nightly"]}
         words = [*options.pytest.split(), f"--program={options.program}", f"--rt={options.rt}",
-                 *left_out.get(options.after, []), *options.options, f"tests/test_{name}.py"]
+                 *left_out.get(options.after, ["-m", "not nightly"]), *options.options,
+                 f"tests/test_{name}.py"]
         self.running.append(Step(name, words, self.reckoned(name), nice, is_tests=True))
 
     def wait(self) -> None:

@@ -63,11 +63,11 @@ def again(pid, status, mark):
 BEGINS = f"""#!{sys.executable} -SE
 import os, signal, subprocess, sys, time
 here = os.path.dirname(sys.argv[0])
-TOLD, HEARD, of_probe, of_lrupd, *others = os.environ["LRUP_FRONT"].split(" ", 6)
+TO_ENGINES, FROM_ENGINES, of_probe, of_lrupd, *others = os.environ["LRUP_FRONT"].split(" ", 6)
 formula, assumptions, lrupd = others
 front = formula.split("/")[2]
-FRONT = os.open(f"/proc/{{front}}/fd/{{TOLD}}", os.O_RDONLY)
-os.dup2(os.open(f"/proc/{{front}}/fd/{{HEARD}}", os.O_WRONLY), 1)
+FRONT = os.open(f"/proc/{{front}}/fd/{{TO_ENGINES}}", os.O_RDONLY)
+os.dup2(os.open(f"/proc/{{front}}/fd/{{FROM_ENGINES}}", os.O_WRONLY), 1)
 folder = here + "/folder"
 os.mkdir(folder)
 FOLDER = os.open(folder, os.O_PATH | os.O_DIRECTORY)

@@ -101,7 +101,7 @@ def others():
     os.write(end, f"{os.getpid()} {os.open(folder + '/other', os.O_PATH)}".encode())
 children(1, others); say('check 1 10 10 0 ' + os.read(here, 100).decode()); hears('lrupd')
 # streams are the front's files
-for k, name in enumerate((HEARD, TOLD, of_lrupd, formula.split('/')[-1]), 1):
+for k, name in enumerate((FROM_ENGINES, TO_ENGINES, of_lrupd, formula.split('/')[-1]), 1):
     os.symlink(f'/proc/{front}/fd/{name}', folder + f'/round-1.stream-{k}')
 check('4 10 10 0'); time.sleep(1)
 # a model before its signs

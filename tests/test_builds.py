@@ -57,6 +57,47 @@ def usual(target: str, work: Path) -> None:
         want("-O2" in line, True, f"-O2 in {line}")
 
 
+# CFLAGS of the user, and the flags before them where the front is compiled, and where it is linked.
+STACK, BUFFERS, ANYWHERE = "-fstack-protector-strong", "-D_FORTIFY_SOURCE=2", "-fPIE"
+TABLES = "-Wl,-z,relro,-z,now"
+PROTECTED = [
+    *((user, {STACK, BUFFERS, ANYWHERE}, {TABLES, "-pie"})
+      for user in ("-O2", "-O3 -g", "-O0 -O1", "-O2 -fno-stack-protector")),
+    *((user, {STACK, ANYWHERE}, {TABLES, "-pie"})
+      for user in ("-O0", "-O2 -O0", "-g", "-O1 -D_FORTIFY_SOURCE=3", "-O1 -U_FORTIFY_SOURCE")),
+    *((user, {STACK, BUFFERS}, {TABLES})
+      for user in ("-O2 -static", "-O2 -no-pie", "-O2 -fno-pie"))]
+
+
+def protected(work: Path) -> None:
+    """The commands of lrup-solve's front, and no others, have these flags. The user's come later,
+    and so win."""
+    every = {STACK, BUFFERS, ANYWHERE, TABLES, "-pie"}
+    for user, compiling, linking in PROTECTED:
+        for line in commands("solve", [f"CFLAGS={user}", "CXXFLAGS=-O2"], {}):
+            is_front = any("/front/" in word for word in line)
+            found = [word for word in line if word in every]
+            wanted = (compiling if "-c" in line else linking) if is_front else set()
+            want(set(found), wanted, f"the flags of {line}")
+            if found:
+                last = max(map(line.index, found))
+                want(user.split()[-1] in line[last + 1:], True,
+                     f"whether {user} comes later in {line}")
+
+
+def is_protected(work: Path) -> None:
+    """The front is loaded anywhere, with its tables read-only, and checks its stack and buffers."""
+    needs("readelf")
+    front = work / "lrup-solve"
+    done = run(["make", "-s", "-C", ROOT, f"SOLVE={front}", f"OBJECTS={work}/objects", front],
+               env=clean({}))
+    want((done.err, done.status), ("", 0), "make's output")
+    found = run(["readelf", "-W", "-hlds", front]).out
+    want([word for word in (r"Type:\s+DYN", "GNU_RELRO", r"FLAGS.*\bNOW\b", "__stack_chk_fail",
+                            r"__\w+_chk\b") if not re.search(word, found)],
+         [], f"what isn't found in\n{found[:2000]}")
+
+
 # Recompilation.
 
 
@@ -164,7 +205,8 @@ def packaged(work: Path) -> None:
 
 
 def rows() -> List[Row]:
-    found: List[Row] = [("compiled again", again), ("installed", installed), ("packaged", packaged)]
+    found: List[Row] = [("compiled again", again), ("installed", installed), ("packaged", packaged),
+                        ("the front's flags", protected), ("the front, protected", is_protected)]
     for target in BUILDS:
         found += [(f"{target}, flags of the {'environment' if by else 'command line'}", with_flags,
                    target, by) for by in (True, False)]

@@ -10,15 +10,16 @@ import shlex
 import signal
 import subprocess
 import sys
+import time
 from pathlib import Path
-from typing import List
+from typing import List, Tuple
 
 import pytest
 
 from harness import FOUR, LIMIT, ROOT, Ran, Row, parametrized, run, started, until, want, written
 from hostile import AGAIN, PROOF, SATISFIABLE, is_model, program, run_with
 from solving import (LRUP_SOLVE, PROGRAM, SOLVE, Answer, before_lrupd, in_place_of_lrupd, marked,
-                     none_left)
+                     none_left, processes_of)
 
 FRONT = ROOT / "tools" / "solve" / "front" / "front.c"
 def hostile(body: str, wanted: str, words: List[str], text: str, work: Path) -> None:
@@ -98,7 +99,7 @@ def expects(body: str, expected: str, line: str, status: int, text: str, work: P
 
 def expects_nothing(body: str, work: Path) -> None:
     """There is no line, and no status that claims the expected answer."""
-    for expected in ("unsat", "sat", "unsat-under-assumptions", "x", "unsat: s UNKNOWN", "unknown"):
+    for expected in ("unsat", "sat", "unsat-under-assumptions"):
         folder = work / re.sub(r"\W", "", expected)
         folder.mkdir()
         answer = run_with(body, ["--expect", expected], FOUR, folder)
@@ -106,13 +107,149 @@ def expects_nothing(body: str, work: Path) -> None:
              f"the answer of\n{answer.out}{answer.said}")
 
 
-def help_expected(work: Path) -> None:
-    """lrup-engines answers --help, so its status can't mean that --expect is met."""
-    engines = in_place_of_lrupd("exit 0", work)
-    for word in ("--help", "--version", "-h"):
-        done = run([SOLVE, "--lrupd", PROGRAM, "--engines", engines, "--expect", "unsat", word,
-                    written(FOUR, work)])
-        want(done.status, 1, f"the status of {word}")
+# Words, and why they are refused.
+REFUSED_WORDS: List[Tuple[List[str], str]] = [
+    (["--seed="], "--seed takes a value, not ''"),
+    (["--cubes", ""], "--cubes takes a value, not ''"),
+    (["-j", ""], "-j takes a value, not ''"), (["--assume="], "--assume takes a value, not ''"),
+    (["--nothing"], "no such option: --nothing (--help lists them)"),
+    (["--seeds", "1"], "no such option: --seeds (--help lists them)"),
+    (["--see=1"], "no such option: --see=1 (--help lists them)"),
+    (["--exp", "sat"], "no such option: --exp (--help lists them)"),
+    (["--quiet=1"], "no such option: --quiet=1 (--help lists them)"),
+    (["-x"], "no such option: -x (--help lists them)"),
+    (["-qx"], "no such option: -qx (--help lists them)"),
+    (["-q", "--check"], "no such option: --check (--help lists them)"),
+    (["--a\nb"], "no such option: '--a?b' (--help lists them)"),
+    (["-", "-"], "unexpected argument: "), (["--time", "x"], "--time takes seconds above 0, not x"),
+    (["--time=0"], "--time takes seconds above 0, not 0"),
+    (["--time", "1e3"], "--time takes seconds above 0, not 1e3"),
+    (["--time=.."], "--time takes seconds above 0, not .."),
+    (["--help"], "--expect, but nothing is solved"), (["-h"], "--expect, but nothing is solved"),
+    (["--version"], "--expect, but nothing is solved"),
+    (["--version", "--seeds", "1"], "no such option: --seeds (--help lists them)")]
+TAKEN_WORDS = [["--seed", "1"], ["--seed=x"], ["--cubes=none"], ["-j", "2"], ["-j0"], ["-qv"],
+               ["--no-share"], ["--share-size", "3"], ["--memory=x"], ["--proofs", "none"],
+               ["--core", "none"], ["--lrat", "none"], ["--re-hint"], ["--replace"],
+               ["--resume=none"], ["--save-every", "1"], ["--solver", "%formula %proof"],
+               ["--solver", "x"], ["--time", "5"], ["--mpi", "none"], ["--assume", "cube"],
+               ["--assume", "none"], ["--expect", "sat"], ["--time", "0.000001"]]
+
+
+def expects_at_each_place(words: List[str], cause: str, work: Path) -> None:
+    """The probe is killed, and engines do nothing. Wherever --expect stands, no wrong word hides
+    it. It is the last --expect that counts."""
+    written("-2 0\n", work, "cube")
+    lrupd, engines = in_place_of_lrupd("kill -9 $$", work), work / "stub"
+    engines.write_text("#!/bin/sh\nexit 0\n")
+    engines.chmod(0o755)
+    rest = ["--lrupd", lrupd, "--engines", engines, written(SATISFIABLE, work)]
+    for given in (["--expect", "unsat"], ["--expect=unsat"]):
+        for line in ([*given, *words, *rest], [*words, *given, *rest], [*words, *rest, *given],
+                     [*rest, *words, *given], [*rest, *given, *words]):
+            done = run([SOLVE, *line], cwd=work)
+            want(done.status, 1, f"the status of {line}, with {done.out}{done.err}")
+            want(done.out if cause else done.out.splitlines()[-1:], "" if cause else ["s UNKNOWN"],
+                 f"the output of {line}")
+            want((cause in done.err, done.err.count("\n")), (True, 1),
+                 f"the message of {line}: {done.err}")
+
+
+def wrong_expectation(work: Path) -> None:
+    for word, said in (("x", "x"), ("", "''"), ("unsat: s UNKNOWN", "'unsat: s UNKNOWN'"),
+                       ("uns", "uns"), ("UNSAT", "UNSAT")):
+        done = run([SOLVE, "--lrupd", PROGRAM, f"--expect={word}", written(FOUR, work)])
+        wanted = "sat, unsat or unsat-under-assumptions" if word else "a value"
+        want(done, Ran("", f"lrup-solve: --expect takes {wanted}, not {said}\n", 1),
+             f"the answer to {word!r}")
+
+
+def shown_by_the_front(work: Path) -> None:
+    """No other program is asked for the help and the version, so none can print a verdict."""
+    engines = in_place_of_lrupd("echo s UNSATISFIABLE; exit 20", work)
+    formula, version = written(SATISFIABLE, work), (ROOT / "VERSION").read_text().strip()
+    for word in ("--help", "--version", "-h", "-qh", "-hv"):
+        for line in ([word, "--engines", engines, formula], ["--engines", engines, formula, word],
+                     ["-q", "--engines", engines, word]):
+            done = run([SOLVE, *line])
+            is_right = (done.out == f"lrup-solve {version}\n" if word == "--version"
+                        else done.out.startswith("usage: lrup-solve "))
+            want((is_right, done.err, done.status), (True, "", 0), f"{line} printed {done.out}")
+    with open("/dev/full", "w") as full:
+        done = run([SOLVE, "--help"], stdout=full)
+    want((done.err, done.status),
+         ("lrup-solve: cannot write to standard output: No space left on device\n", 1), "the help")
+
+
+def by_another_front(work: Path) -> None:
+    """A front that a front has started refuses to run, or it could start itself without end."""
+    done = run([SOLVE, "--lrupd", PROGRAM, written(FOUR, work)],
+               env={**os.environ, "LRUP_FRONT": "1 2 3 4 /proc/5/fd/6 - lrupd"})
+    want(done, Ran("", "lrup-solve: started by another lrup-solve\n", 1), "the answer")
+
+
+def not_started(numbers: str, work: Path) -> None:
+    """lrupd isn't started for a process or a file with such a number."""
+    lrupd = in_place_of_lrupd(
+        f"case \"$*\" in *' /dev/null') exit 3;; esac\necho x >> {work}/starts", work)
+    body = f"hears('probe')\nsay('check 1 10 10 0{numbers}')\ntime.sleep(100)"
+    answer = run_with(body.replace("PID", "' + str(os.getpid()) + '"), ["--time", "5"], FOUR, work,
+                      lrupd)
+    want((answer.answers, (work / "starts").exists()), (["s UNKNOWN"], numbers == " PID 3"),
+         f"whether it is started, in\n{answer.out}{answer.said}")
+
+
+def busy(body: str, comment: str, work: Path) -> None:
+    """After the verdict, lrup-engines gets some seconds for a core, and more while it says that it
+    is busy. Then the verdict is printed."""
+    answer = run_with(f"stream(1, {PROOF!r})\ncheck()\nhears('lrupd')\n{body}",
+                      ["--core", "none"], FOUR, work)
+    want((answer.answers, answer.status, answer.comments), (["s UNSATISFIABLE"], 20, [comment]),
+         f"the answer of\n{answer.out}{answer.said}")
+
+
+def traced(work: Path) -> None:
+    """Another process traces lrupd, and doesn't let the front collect its end. The front doesn't
+    use the processor meanwhile."""
+    body = f"""import ctypes
+def ticks():
+    return sum(map(int, open(f"/proc/{{front}}/stat").read().rsplit(")", 1)[1].split()[11:13]))
+os.mkfifo(folder + '/round-1.stream-1')
+hears('probe')
+check()
+feeding = open(folder + '/round-1.stream-1', 'w')
+pid = int(open(f'/proc/{{front}}/task/{{front}}/children').read().split()[-1])
+held = ctypes.CDLL(None).ptrace(0x4206, pid, 0, 0)       # PTRACE_SEIZE
+os.kill(pid, signal.SIGKILL)
+before = ticks()
+time.sleep(2)
+open({str(work / 'used')!r}, 'w').write(f"{{held}} {{ticks() - before}}")"""
+    answer = run_with(body, ["--time", "10"], FOUR, work)
+    want((answer.answers, answer.status), (["s UNKNOWN"], 0), "the answer")
+    held, used = map(int, (work / "used").read_text().split())
+    if held != 0:
+        pytest.skip("no process may trace another")
+    want(used < 20, True, f"whether {used} hundredths of a second are little")
+
+
+def ended_while_it_evaluates(work: Path) -> None:
+    """A long assignment's evaluation doesn't keep a signal waiting."""
+    formula, mark = work / "formula.cnf", marked(work)
+    body = f"""hears('probe')
+with open({str(formula)!r}, 'ab') as file:
+    for _ in range(200): file.write(b'c\\n' * 500000)
+model('++-')
+time.sleep(100)"""
+    with started([SOLVE, "--lrupd", PROGRAM, "--engines", program(body, work),
+                  written(SATISFIABLE, work)], stdout=subprocess.PIPE, stderr=subprocess.PIPE,
+                 text=True) as running:
+        until("it evaluates", lambda: len(processes_of(mark)) == 1
+              and formula.stat().st_size > 200000000)
+        begun = time.monotonic()
+        running.send_signal(signal.SIGTERM)
+        out, _ = running.communicate(timeout=LIMIT)
+    want((running.returncode, "SAT" in out), (-signal.SIGTERM, False), f"the end, with {out}")
+    want(time.monotonic() - begun < 1, True, "whether it ended at once")
 
 
 def never_began(words: List[str], work: Path) -> None:
@@ -182,10 +319,10 @@ def signalled(number: int, body: str, whole_group: bool, work: Path) -> None:
 
 
 def refused_proof(work: Path) -> None:
-    """lrupd's words are printed even if the report can't be kept."""
+    """The verdict and its status don't depend on whether the report can be kept."""
     answer = run_with(f"stream(1, {PROOF!r})\ncheck()\nhears('lrupd')\nsay('refused')",
                       [], FOUR, work)
-    want((answer.answers, answer.status), (["s UNSATISFIABLE"], 1), "the answer")
+    want((answer.answers, answer.status), (["s UNSATISFIABLE"], 20), "the answer")
 
 
 def reading_killed(text: str, body: str, wanted: str, status: int, work: Path) -> None:
@@ -345,12 +482,12 @@ while True: time.sleep(1)"""
     want(2 <= len((work / "signals").read_text()) <= 8, True, "signals that two processes got")
 
 
-def version_in_little_memory(work: Path) -> None:
+def in_little_memory(work: Path) -> None:
     """The front allocates no memory for an assignment before there is one."""
-    done = run(["sh", "-c", "ulimit -v 16000 && exec \"$@\"", "sh", SOLVE, "--engines",
-                "/bin/echo", "--version"])
-    want((done.out, done.status), ("--engines /bin/echo --version\n", 0),
-         f"the message: {done.err}")
+    done = run(["sh", "-c", "ulimit -v 16000 && exec \"$@\"", "sh", SOLVE, "--lrupd",
+                in_place_of_lrupd("kill -9 $$", work), "--engines", "/bin/true",
+                written(FOUR, work)])
+    want(done, Ran("s UNKNOWN\n", "", 0), "the answer")
 
 
 def missing(work: Path) -> None:
@@ -370,14 +507,16 @@ def endless(work: Path) -> None:
     free = re.search(r"MemAvailable:\s+(\d+)", Path("/proc/meminfo").read_text())
     if not free or int(free[1]) < 5000000:
         pytest.skip("less than 5 GB of memory are free")
-    said = "lrup-solve: /dev/zero: more than lrupd's limit of 2684354560 bytes\n"
+    said = ("lrup-solve: /dev/zero: more than 2684354560 bytes, which lrup-solve doesn't copy: "
+            "give a file\n")
     want(run([SOLVE, "--lrupd", PROGRAM, "/dev/zero"]), Ran("", said, 1), "the answer")
 
 
 def included(work: Path) -> None:
-    """Only the supervisor is compiled with the trusted code."""
+    """Only the supervisor, and the texts of --help, are compiled with the trusted code."""
     lines = FRONT.read_text().splitlines()
-    want([line for line in lines if line.startswith('#include "')], ['#include "supervisor.h"'],
+    want([line for line in lines if line.startswith('#include "')],
+         [f'#include "{name}.h"' for name in ("supervisor", "lrup-solve.help", "lrup-check.help")],
          "headers of the project")
 
 
@@ -499,7 +638,7 @@ def rows() -> List[Row]:
                ("lrupd's id again, by a solver", solvers_id_again),
                ("its reading stopped", reading_stopped), ("an empty file as lrupd", empty_checker),
                ("signals of the end", signals_of_the_end),
-               ("a version in little memory", version_in_little_memory)]
+               ("in little memory", in_little_memory)]
     for name, body, text, line in (
             ("a proof", proves + ends, FOUR, proved),
             ("a model", "model('++-')", SATISFIABLE, found),
@@ -514,7 +653,21 @@ def rows() -> List[Row]:
     listed += [(f"{name}, expecting an answer", expects_nothing, body) for name, body in (
         ("status 0", "os._exit(0)"), ("status 20", "os._exit(20)"), ("refused", "say('refused')"),
         ("a verdict", "say('s UNSATISFIABLE')\nsay('s SATISFIABLE')"), ("a crash", "os.abort()"))]
-    listed += [("help, expecting an answer", help_expected), ("never began", never_began, []),
+    listed += [(f"expecting, and {words}", expects_at_each_place, words, cause)
+               for words, cause in [*REFUSED_WORDS, *((words, "") for words in TAKEN_WORDS)]]
+    listed += [("a wrong expectation", wrong_expectation), ("help and version", shown_by_the_front),
+               ("started by a front", by_another_front), ("traced", traced),
+               ("ended while it evaluates", ended_while_it_evaluates),
+               ("busy with a core", busy,
+                "for k in range(12):\n    say('busy')\n    time.sleep(1)\nsay('c written')",
+                "written"),
+               ("no core", busy, "time.sleep(100)",
+                "the file of --core or --lrat is missing: lrup-engines is late")]
+    listed += [(f"lrupd in a process and a file{numbers}", not_started, numbers) for numbers in (
+        " PID 3", " -1 3", " 0 3", " 4294967297 3", " 99999999999999999999 3", " PID -1",
+        " PID 99999999999999999999", " PID 18446744073709551619", " PID 2147483648", " +1 3",
+        "  PID 3", " PID 3 ", " PID 3x", " PID 3 3", " PID", " 0x1 3", "\tPID 3")]
+    listed += [("never began", never_began, []),
                ("never began, with -q", never_began, ["-q"])]
     listed += [(f"dies after {number}", dies_at_each_moment, number) for number in range(7)]
     under = "stream(1, '5 1 0 1 2 0\\n')\ncheck()\nhears('lrupd')"

@@ -26,8 +26,9 @@ from harness import (AGAIN_IF_LATE, BUILDS, COUNT, FOUR, LIMIT, ROOT, TESTS, Ran
                      want, written)
 from hostile import PROOF, SATISFIABLE, is_model, run_with
 from hostile_programs import COMMON, PROGRAMS, PROVING, programs
-from solving import (EARLY, FRONT, PROGRAM, SOLVE, Answer, command, end_all, in_environment,
-                     in_place_of_lrupd, marked, of_process, processes_of, processes_of_run, solve)
+from solving import (EARLY, FRONT, FRONTS_FLAGS, PROGRAM, SOLVE, Answer, command, end_all,
+                     in_environment, in_place_of_lrupd, marked, of_process, processes_of,
+                     processes_of_run, solve)
 
 SIGNALS = COUNT or 60
 UNKNOWN, FOUND, PROVED = "s UNKNOWN", "s SATISFIABLE", "s UNSATISFIABLE"
@@ -53,10 +54,11 @@ SOURCES = ROOT / "tools" / "solve" / "front"
 WRAPPERS = TESTS / "refuse_front.c"
 WRAPPED = set(re.findall(r"CALL\((\w+), ", WRAPPERS.read_text()))
 # Besides the wrapped functions, the front calls only these library functions, as the linker shows.
-CANNOT_FAIL = set("""__assert_fail __errno_location __isoc23_sscanf __isoc23_strtol __isoc99_sscanf
-    __stack_chk_fail _exit clock_gettime dirname err errx feof ferror getenv getopt_long getpid
-    getppid labs optarg opterr optind sigaddset sigemptyset sigfillset sscanf stdout strchr strcmp
-    strlen strncmp strsep strsignal strtod strtol supervise warnx""".split())
+CANNOT_FAIL = set("""__assert_fail __errno_location __isoc23_sscanf __isoc23_strtol __isoc23_strtoul
+    __isoc99_sscanf __stack_chk_fail _exit clock_gettime dirname err errx exit feof ferror getenv
+    getopt_long getpid getppid labs optarg opterr optind program_invocation_short_name sigaddset
+    sigemptyset sigfillset sscanf stdout strchr strcmp strcspn strlen strncmp strsep strsignal
+    strspn strtod strtol strtoul supervise warnx""".split())
 ERRORS = {"read": ("EIO", "EINTR", "short"), "write": ("ENOSPC", "EINTR", "short"),
           "pread": ("EIO", "EINTR", "short"),
           **{name: ("ENOMEM", "EINTR") for name in ("close", "dup2", "fcntl", "fopen", "open",
@@ -151,7 +153,7 @@ def refused(function: str, how: str, kind: Kind, work: Path) -> None:
 def refusing_front() -> Path:
     """Wraps the functions that the front calls; none is inlined or replaced by the compiler. One
     worker builds that front."""
-    flags = ["-std=c11", "-O0", "-g", "-fno-builtin", "-U_FORTIFY_SOURCE"]
+    flags = [*FRONTS_FLAGS, "-O0", "-g", "-fno-builtin", "-U_FORTIFY_SOURCE"]
     place = BUILDS / "refusing"
     front = place / "lrup-solve"
     with alone(place / "lock"):

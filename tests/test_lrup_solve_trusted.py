@@ -1,17 +1,25 @@
 """Leaves out, one by one, each line of lrup-solve's front that is marked as trusted.
 
 A hostile program gets a wrong answer from each front that lacks such a line, but none from the
-whole front."""
+whole front. Nightly rows leave out each statement without a marked line, and try all those
+programs: there is no wrong answer."""
+import contextlib
 import os
 import re
+import resource
 import shlex
 import shutil
+import signal
+import subprocess
+import time
 from pathlib import Path
-from typing import Any, Callable, Dict, List, Sequence
+from typing import Any, Callable, Dict, Iterator, List, Sequence
+
+import pytest
 
 from harness import ROOT, Row, compiled, parametrized, run, want, written
 from hostile import SATISFIABLE, is_model, program
-from solving import FLAGS, LRUP_SOLVE, PROGRAM, Answer, in_place_of_lrupd
+from solving import FLAGS, FRONTS_FLAGS, LRUP_SOLVE, PROGRAM, Answer, in_place_of_lrupd
 
 FOLDER = ROOT / "tools" / "solve" / "front"
 MARK = re.compile(r"// trusted \(([^)]*)\)")
@@ -114,6 +122,33 @@ def as_expected(front: Path, work: Path) -> bool:
     return answer_of(front, work, "hears('probe')", ["--expect", "unsat"]).status == 0
 
 
+def unread(front: Path, work: Path) -> bool:
+    """The same, where a front that doesn't read its words finds lrupd and a hostile program in its
+    own folder, and the formula on standard input."""
+    program("hears('probe')", front.parent).rename(front.with_name("lrup-engines"))
+    front.with_name("lrupd").symlink_to(PROGRAM)
+    return run([front, "--expect", "unsat"], SATISFIABLE, limit=60).status == 0
+
+
+def helped(front: Path, work: Path) -> bool:
+    return run([front, "--expect", "unsat", "--help"]).status == 0
+
+
+def unfinished(front: Path, work: Path) -> bool:
+    """The assignment that is printed has no 0 at its end."""
+    answer = answer_of(front, work, "model('++-')\ntime.sleep(0.5)")
+    return answer.status == 10 and answer.values[-1:] != [0]
+
+
+def cut(front: Path, work: Path) -> bool:
+    """The disk is full after the first words of the answer, which are another answer."""
+    out = work / "out"
+    with open(out, "w") as file:
+        done = answer_of(front, work, CUTS, ["--assume", written("-2 0\n", work, "cube")],
+                         stdout=file)
+    return done.status == 20 and out.read_text() == UNSATISFIABLE
+
+
 ENDS = ("os.mkfifo(folder + '/round-1.stream-1')\nhears('probe')\ncheck()\n"
         "feeding = open(folder + '/round-1.stream-1', 'w')\n")
 CHANGES = """os.pwrite(os.open(formula, os.O_RDWR), b"p cnf 1 2\\n1 0\\n-1 0\\n", 0)
@@ -122,6 +157,11 @@ stream(1, "3 0 1 2 0\\n")
 check()
 hears("lrupd")"""
 # Memory runs out before all assumptions are read.
+CUTS = f"""stream(1, '5 2 0 1 2 0\\n')
+check()
+hears('lrupd')
+import resource
+resource.prlimit(int(front), resource.RLIMIT_FSIZE, 2 * ({len(UNSATISFIABLE)},))"""
 STARVES = """hears('probe')
 time.sleep(0.3)
 import resource
@@ -142,6 +182,8 @@ ATTACKS: Dict[str, Attack] = {
                                    "stream(2, '3 0 1 2 0\\n')\ncheck('2 10 10 0')\nhears('lrupd')"),
     "comments": says(UNSATISFIABLE, "say('s UNSATISFIABLE')"),
     "one line": says(UNSATISFIABLE, "say('c x\\ns UNSATISFIABLE')"), "expected": as_expected,
+    "answer": as_expected, "options": unread, "words": unread, "help": helped,
+    "values": gives("++-"), "end of values": unfinished, "end": cut,
     "signal": killed_by_its_status, "status": says(UNSATISFIABLE, FORGED),
     "exit": says(UNSATISFIABLE, FORGED),
     "last line": lambda front, work: UNSATISFIABLE in answer_of(
@@ -162,12 +204,16 @@ ATTACKS: Dict[str, Attack] = {
 
 def front_without(number: int, work: Path) -> Path:
     """The front without this line; -1: with all lines."""
+    return front_of("".join(line for at, line in enumerate(LINES) if at != number), work)
+
+
+def front_of(source: str, work: Path) -> Path:
     folder = work / "front"
     folder.mkdir()
-    (folder / "front.c").write_text("".join(line for at, line in enumerate(LINES) if at != number))
+    (folder / "front.c").write_text(source)
     (folder / "bin").mkdir()
     sources = [folder / "front.c", FOLDER / "supervisor.c"]
-    return compiled(folder / "bin" / "lrup-solve", sources, "-std=c11", "-w", f"-I{FOLDER}",
+    return compiled(folder / "bin" / "lrup-solve", sources, *FRONTS_FLAGS, "-w", f"-I{FOLDER}",
                     *shlex.split(FLAGS))
 
 
@@ -185,10 +231,145 @@ def named(work: Path) -> None:
     want(sorted(MARKS.values()), sorted(ATTACKS), "the words of the marks")
 
 
+# Statements without a mark.
+
+PROCESSES, MEMORY = 300, 8 << 30      # limits of a row; without some line a front may fork forever
+GROUPS = [Path("/sys/fs/cgroup"), Path("/sys/fs/cgroup/pids")]      # of version 2, and 1
+
+
+def code_of(line: str) -> str:
+    """The line without strings, characters and comments."""
+    return re.sub(r'"(\\.|[^"\\])*"|\'(\\.|[^\'\\])*\'|//.*', "", line).strip()
+
+
+def end_of(first: int) -> int:
+    """The last line of the statement that begins in this line; an `else` belongs to its `if`."""
+    number, depth = first, 0
+    while True:
+        code = code_of(LINES[number])
+        depth += code.count("{") + code.count("(") - code.count("}") - code.count(")")
+        is_end = depth == 0 and code.endswith((";", "}"))
+        if is_end and not code_of(LINES[number + 1]).startswith("else"):
+            return number
+        number += 1
+
+
+def statements() -> List[range]:
+    """The lines of each statement without a marked line, simple or not, in the front's functions.
+    Labels aren't statements."""
+    found, before = [], ""
+    for number, line in enumerate(LINES):
+        code = code_of(line)
+        if not code or line.startswith("#"):
+            continue
+        follows = before.endswith((";", "{", "}", ":")) and not before.endswith("= {")
+        is_inner = re.match(r"(if|for|while|else)\b.*\)$", before) is not None
+        is_label = code.endswith(":") or code.startswith("}")
+        if line.startswith("    ") and (follows or is_inner) and not is_label:
+            lines = range(number, end_of(number) + 1)
+            if not any(k in MARKS for k in lines):
+                found.append(lines)
+        before = code
+    return found
+
+
+@contextlib.contextmanager
+def few_processes(work: Path) -> Iterator[Callable[[], None]]:
+    """Gives a function that limits how many processes its caller and their children can have: they
+    are in a control group or, if there is none, belong to a user of their own."""
+    for place in GROUPS:
+        group = place / f"lrup-{os.getpid()}"
+        try:
+            group.mkdir()
+            (group / "pids.max").write_text(str(PROCESSES))
+        except OSError:
+            with contextlib.suppress(OSError):
+                group.rmdir()
+            continue
+        try:
+            yield lambda: (group / "cgroup.procs").write_text(str(os.getpid())) and None
+        finally:
+            end_group(group)
+        return
+    if os.getuid() != 0:
+        pytest.skip("no control group, and no user of its own, limits processes")
+    user = 100000 + os.getpid()
+    os.chown(work, user, user)
+
+    def become() -> None:
+        resource.setrlimit(resource.RLIMIT_NPROC, (PROCESSES, PROCESSES))
+        os.setgid(user)
+        os.setuid(user)
+
+    try:
+        yield become
+    finally:
+        if os.fork() == 0:
+            os.setuid(user)
+            os.kill(-1, signal.SIGKILL)
+            os._exit(0)
+        os.wait()
+
+
+def end_group(group: Path) -> None:
+    end = time.monotonic() + 20
+    while True:
+        left = (group / "cgroup.procs").read_text().split()
+        for pid in left:
+            with contextlib.suppress(ProcessLookupError):
+                os.kill(int(pid), signal.SIGKILL)
+        with contextlib.suppress(OSError):
+            return group.rmdir()
+        assert time.monotonic() < end, f"processes are left: {left}"
+        time.sleep(0.05)
+
+
+def attacked(front: Path, work: Path) -> str:
+    """The attacks that get a wrong answer. If the front can't run, or doesn't end, an attack has
+    none. Each attack gets a front in a folder of its own."""
+    names = []
+    for name, attack in ATTACKS.items():
+        here = work / re.sub(r"\W", "-", name)
+        (here / "bin").mkdir(parents=True)
+        try:
+            if attack(Path(shutil.copy(front, here / "bin")), here):
+                names.append(name)
+        except (subprocess.TimeoutExpired, OSError):
+            pass
+    return ", ".join(names)
+
+
+def unmarked(lines: Sequence[int], work: Path) -> None:
+    """Without these lines the front isn't compiled, or gives no wrong answer."""
+    text = "".join(LINES[:lines[0]] + [";\n"] + LINES[lines[-1] + 1:])
+    try:
+        front = front_of(text, work)
+    except subprocess.CalledProcessError:
+        return
+    with few_processes(work) as limit:
+        child = os.fork()
+        if child == 0:
+            try:
+                limit()
+                resource.setrlimit(resource.RLIMIT_AS, (MEMORY, MEMORY))
+                (work / "names").write_text(attacked(front, work))
+            finally:
+                os._exit(0)
+        os.waitpid(child, 0)
+    left_out_lines = "".join(LINES[k] for k in lines)
+    want((work / "names").read_text(), "", f"attacks with a wrong answer without\n{left_out_lines}")
+
+
 def rows() -> List[Row]:
     return [("marks", named)] + [(f"without: {name}", left_out, number, name)
                                  for number, name in MARKS.items() if name in ATTACKS]
 
 
+def nightly_rows() -> List[Row]:
+    return [(f"unmarked, line {lines[0] + 1}: {LINES[lines[0]].strip()[:50]}", unmarked, lines)
+            for lines in statements()]
+
+
 pytestmark = LRUP_SOLVE
 test_row = parametrized(rows())
+test_unmarked = pytest.mark.nightly(parametrized(nightly_rows()))

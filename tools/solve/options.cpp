@@ -1,4 +1,6 @@
-// Unverified, like the whole solver. The command line.
+// Unverified, like the whole solver. The command line. The front, which reads it first, refuses
+// unknown options, options without a value, wrong values of --time and --expect, and a second
+// FORMULA, and answers --help and --version.
 #include <algorithm>
 #include <cerrno>
 #include <cmath>
@@ -14,13 +16,6 @@ const char *program_name = "lrup-solve";
 namespace {
 
 const double USUAL_SAVING = 300;        // seconds
-
-const char help[] =
-#include "lrup-solve.help.h"
-    ;
-const char help_of_check[] =
-#include "lrup-check.help.h"
-    ;
 
 // What was given. If an option is given twice, the last value counts.
 struct {
@@ -83,15 +78,6 @@ void read_memory(Options &options, const std::string &value) {
     exit(0);
 }
 
-void check_answer(const Options &options) {
-    for (const char *one : { "unsat", "unsat-under-assumptions", "sat" })
-        if (strcmp(given.expect, one) == 0 && !(options.check && one[0] == 's')) return;
-    bad_value("--expect",
-              options.check ? "unsat or unsat-under-assumptions"
-                            : "sat, unsat or unsat-under-assumptions",
-              given.expect);
-}
-
 const char *solver_of(const char *value) {
     if (!strstr(value, "%formula") || !strstr(value, "%proof"))
         bad_value("--solver", "a command with both %formula and %proof", value);
@@ -99,8 +85,7 @@ const char *solver_of(const char *value) {
 }
 
 [[noreturn]] void refuse_word(const char *cause, const char *word) {
-    refuse(std::string(cause) + " " + quoted(word) +
-           (strstr(cause, "option") ? " (--help lists them)" : ""));
+    refuse(std::string(cause) + " " + quoted(word));
 }
 
 Option flagged(const char *name, bool &place, char letter = 0) {
@@ -131,12 +116,10 @@ void read_options(Options &options, int count, char **words) {
         valued("assume", options.assume), valued("lrupd", given.lrupd),
         valued("engines", given.program),
         flagged("verbose", options.verbose, 'v'), flagged("quiet", options.quiet, 'q'),
-        { "help", 'h', nullptr, nullptr, nullptr }, { "version", 0, nullptr, nullptr, nullptr } };
+        { "version", 0, nullptr, nullptr, nullptr } };
     list.insert(list.end(), of_engines.begin(), of_engines.end());
-    const char *shown = options_read(list.data(), count, words, &given.files, true, refuse_word);
-    if (shown) show(shown[0] == 'v' ? version() + "\n" : options.check ? help_of_check : help);
-    for (const Option &one : list)
-        if (one.value && *one.value && **one.value == 0) bad_value(name_of(one), "a value", "");
+    if (options_read(list.data(), count, words, &given.files, true, refuse_word))
+        show(version() + "\n");
     for (const Option &one : of_engines)
         if (options.check &&
             ((one.flag && *one.flag) || (one.value && *one.value) ||
@@ -152,7 +135,6 @@ void read_values(Options &options) {
     options.seconds = seconds("--time", given.time, 0);
     options.save_every = seconds("--save-every", given.save_every, USUAL_SAVING);
     if (given.memory) read_memory(options, given.memory);
-    if (given.expect) check_answer(options);
     for (size_t k = 0; k < given.solvers.length; k++)
         options.solvers.push_back(solver_of(given.solvers.items[k]));
 }
@@ -162,13 +144,10 @@ void take_files(Options &options) {
     const Texts &files = given.files;
     options.names_formula = files.length > 0;
     options.formula = options.names_formula ? files.items[0] : "-";
-    if (files.length > 1 && !options.check)
-        refuse("unexpected argument: " + quoted(files.items[1]));
     for (size_t k = 1; k < files.length; k++) options.solvers.push_back(files.items[k]);
     if (!options.check) return;
     auto is_standard_input = [](const char *word) { return strcmp(word, "-") == 0; };
     auto inputs = std::count_if(options.solvers.begin(), options.solvers.end(), is_standard_input);
-    if (options.solvers.empty()) refuse("no proof: lrup-check FORMULA PROOF");
     if (inputs + is_standard_input(options.formula) > 1)
         refuse("standard input can be read only once");
 }

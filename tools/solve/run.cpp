@@ -343,8 +343,9 @@ bool Run::await_end(Child &child) {
     double time = inputs.deadline();
     bool goes_on = true;
     while (child.running) {
+        front.say("busy");      // so the front waits some seconds more
         std::vector<pollfd> files = { front.says() };
-        loop.wait(teams.shared->events, files, time, { &child });
+        loop.wait(teams.shared->events, files, std::min(time, now() + 1), { &child });
         if (files[0].revents != 0) front.read_on(&checker);
         goes_on &= !is_ended() && now() < time;
         if (!goes_on) child.signal(SIGTERM);

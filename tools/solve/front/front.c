@@ -14,15 +14,18 @@
 // marked `trusted`; others can at worst prevent an answer. Other processes mustn't trace the front
 // or lrupd, replace lrupd, or write to the formula's file or the user's output (docs/SECURITY.md).
 //
-// lrup-engines gets a line for each child that has ended, and one for a signal. It sends blocks of
-// BLOCK bytes, each a line that is padded with zeros, and it answers --help and --version.
+// The front reads all words of its command line, and refuses wrong ones, before it starts anything.
+// lrup-engines gets the same words, and checks values that only it uses. It also gets a line for
+// each child that has ended, and one for a signal. It sends blocks of BLOCK bytes, each a line that
+// is padded with zeros:
 //
 //     check STREAMS LINES ROOM TRIES PID FILE    start lrupd, if there is none; the streams are in
 //                                                the folder that process PID has open as FILE
 //     v SIGNS      + or - for each of the next variables
 //     model        the assignment is whole
 //     c WORDS      a comment
-//     refused      standard error says what can't be used: the status is 1
+//     refused      standard error says what can't be used: without an answer, the status is 1
+//     busy         after the verdict, the file of --core or --lrat is still being made
 #define _GNU_SOURCE
 #include <assert.h>
 #include <err.h>
@@ -30,6 +33,7 @@
 #include <fcntl.h>
 #include <getopt.h>
 #include <libgen.h>
+#include <limits.h>
 #include <poll.h>
 #include <stdarg.h>
 #include <stdbool.h>
@@ -52,11 +56,22 @@ enum { UNSATISFIABLE = 0, UNKNOWN = 3, UNDER_ASSUMPTIONS = 8 };     // statuses 
 enum { GRACE = 8000, ENDING_TIME = 14000, READING_TIME = 600000 };  // milliseconds
 enum state { SOLVING, ENDING, READING, OVER };
 enum which { SUPERVISOR, PROBE, LRUPD, CHILDREN };
+// Codes of words, for getopt_long(). OTHER: only lrup-engines reads that option.
+enum { FORMULA = 1, ASSUME, CORE_OR_LRAT, ENGINES_PATH, EXPECT, LRUPD_PATH, MPI, TIME, SHOW_VERSION,
+       SHOW_HELP = 'h', OTHER = 'j', QUIET = 'q', VERBOSE = 'v', CODES };
 
-static struct {         // what was given: "" for an option without a value, NULL if it wasn't given
-    const char *formula, *assume, *engines, *lrupd, *seconds, *mpi, *quiet, *verbose, *help;
-    const char *check, *core_or_lrat, *expect, *others;     // others: lrup-engines reads them
-} options;
+static const char HELP[] =
+#include "lrup-solve.help.h"
+    ;
+static const char HELP_OF_CHECK[] =
+#include "lrup-check.help.h"
+    ;
+static const char VERSION_LINE[] = "lrup-solve " VERSION "\n";     // VERSION comes from make
+
+// What was given last, by its code: "" for an option without a value, NULL if it wasn't given.
+static const char *given[CODES];
+static bool is_check;           // lrup-check: words after FORMULA are proofs
+static int files_given;         // FORMULA and proofs
 
 static struct child {
     const char *name;
@@ -68,13 +83,16 @@ static struct child {
 } children[CHILDREN] = { { .name = "supervisor", .handle = -1 }, { .name = "probe", .handle = -1 },
                          { .name = "lrupd", .handle = -1 } };
 static enum state state = SOLVING;
-static long until, latest;                      // deadlines, by now(): of the state, of the run
-static const char *self, *lrupd, *formula, *assume;     // paths
+static long state_ends, run_ends;               // deadlines, by now(); run_ends: of --time
+static const char *proc_self, *lrupd, *formula, *assume;    // paths
+static const char *expected;                    // the line that --expect names
 static const char *verdict;                     // a line; NULL: there is none
 static signed char *assignment;                 // by variable, from 1: 1 true, -1 false
-static long known;                              // how many variables the assignment has
+static long assigned;                           // how many variables the assignment has
 static bool is_whole, has_refused;              // the assignment; lrup-engines
-static int ended_by, null, signals, told[2], heard[2];  // a signal; files; pipes of lrup-engines
+static int ended_by;                            // a signal; 0: none
+static int dev_null, signals_held;              // files
+static int to_engines[2], from_engines[2];      // pipes: the end to read, the end to write
 static sigset_t mask_before;
 
 static char *text(const char *format, ...) {
@@ -86,34 +104,89 @@ static char *text(const char *format, ...) {
     return made;
 }
 
-// False for words that can't be used: lrup-engines gets the same words, and says why.
-static bool read_words(int count, char **words) {
+// A word in a message: in quotes if a shell would need them, and without control bytes.
+static const char *shown(const char *word) {
+    static const char plain[] = "abcdefghijklmnopqrstuvwxyzABCDEFGHIJKLMNOPQRSTUVWXYZ0123456789"
+                                "-_./+=,:@%";
+    bool is_plain = *word != 0 && word[strspn(word, plain)] == 0;
+    char *made = text(is_plain ? "%s" : "'%s'", word);
+    for (char *at = made; *at != 0; at++)
+        if ((unsigned char)*at < ' ' || *at == 127) *at = '?';
+    return made;
+}
+
+static void take_file(const char *word) {
+    if (given[FORMULA] != NULL && !is_check) errx(1, "unexpected argument: %s", shown(word));
+    if (given[FORMULA] == NULL) given[FORMULA] = word;
+    files_given++;
+}
+
+// Reads all words, and refuses those that no option and no file can be. lrup-check passes --check
+// as the first word. Option names can't be abbreviated.
+static void read_words(int count, char **words) {
     static const struct option list[] = {       // 1: a value follows
-        { "assume", 1, NULL, 'a' },   { "check", 0, NULL, 'p' },    { "core", 1, NULL, 'c' },
-        { "cubes", 1, NULL, 'o' },    { "engines", 1, NULL, 'e' },  { "expect", 1, NULL, 'x' },
-        { "help", 0, NULL, 'h' },     { "lrat", 1, NULL, 'c' },     { "lrupd", 1, NULL, 'l' },
-        { "memory", 1, NULL, 'o' },   { "mpi", 1, NULL, 'm' },      { "no-share", 0, NULL, 'o' },
-        { "proofs", 1, NULL, 'o' },   { "quiet", 0, NULL, 'q' },    { "re-hint", 0, NULL, 'o' },
-        { "replace", 0, NULL, 'o' },  { "resume", 1, NULL, 'o' },   { "save-every", 1, NULL, 'o' },
-        { "seed", 1, NULL, 'o' },     { "share-size", 1, NULL, 'o' }, { "solver", 1, NULL, 'o' },
-        { "time", 1, NULL, 't' },     { "verbose", 0, NULL, 'v' },  { "version", 0, NULL, 'h' },
-        { NULL, 0, NULL, 0 } };
-    static const char **const places[] = {
-        [1] = &options.formula, ['a'] = &options.assume, ['c'] = &options.core_or_lrat,
-        ['e'] = &options.engines, ['h'] = &options.help, ['j'] = &options.others,
-        ['l'] = &options.lrupd, ['m'] = &options.mpi, ['o'] = &options.others,
-        ['p'] = &options.check, ['q'] = &options.quiet, ['t'] = &options.seconds,
-        ['v'] = &options.verbose, ['x'] = &options.expect };
-    int letter;
+        { "assume", 1, NULL, ASSUME },      { "core", 1, NULL, CORE_OR_LRAT },
+        { "cubes", 1, NULL, OTHER },        { "engines", 1, NULL, ENGINES_PATH },
+        { "expect", 1, NULL, EXPECT },      { "help", 0, NULL, SHOW_HELP },
+        { "lrat", 1, NULL, CORE_OR_LRAT },  { "lrupd", 1, NULL, LRUPD_PATH },
+        { "memory", 1, NULL, OTHER },       { "mpi", 1, NULL, MPI },
+        { "no-share", 0, NULL, OTHER },     { "proofs", 1, NULL, OTHER },
+        { "quiet", 0, NULL, QUIET },        { "re-hint", 0, NULL, OTHER },
+        { "replace", 0, NULL, OTHER },      { "resume", 1, NULL, OTHER },
+        { "save-every", 1, NULL, OTHER },   { "seed", 1, NULL, OTHER },
+        { "share-size", 1, NULL, OTHER },   { "solver", 1, NULL, OTHER },
+        { "time", 1, NULL, TIME },          { "verbose", 0, NULL, VERBOSE },
+        { "version", 0, NULL, SHOW_VERSION }, { NULL, 0, NULL, 0 } };
+    static char name_of_check[] = "lrup-check";
+    is_check = count > 1 && strcmp(words[1], "--check") == 0;
+    if (is_check) program_invocation_short_name = name_of_check;    // in messages
+    if (is_check) optind = 2;
     opterr = 0;
-    while ((letter = getopt_long(count, words, "-j:qvh", list, NULL)) != -1) {
-        bool is_formula = letter == 1, is_empty = optarg != NULL && *optarg == 0;
-        if (is_formula && options.formula && options.check) continue;   // lrup-engines' proof
-        if (letter == '?' || (is_formula ? options.formula != NULL : is_empty)) return false;
-        *places[letter] = optarg ? optarg : "";
+    int code;
+    int at = optind;        // of the word that is read
+    int index = -1;         // in the list; -1: not an option that begins with --
+    while ((code = getopt_long(count, words, "-:j:qvh", list, &index)) != -1) {
+        const char *name = index < 0 ? text("-%c", code) : text("--%s", list[index].name);
+        bool is_abbreviated = index >= 0 && strcspn(words[at], "=") < strlen(name);
+        if (code == ':') errx(1, "no value after %s", shown(words[at]));
+        if (code == '?' || is_abbreviated)
+            errx(1, "no such option: %s (--help lists them)", shown(words[at]));
+        if (code == FORMULA) take_file(optarg);
+        else if (optarg != NULL && *optarg == 0) errx(1, "%s takes a value, not ''", name);
+        else given[code] = optarg ? optarg : "";        // trusted (options)
+        at = optind;
+        index = -1;
     }
-    if (optind < count && options.formula == NULL) options.formula = words[optind++];   // after --
-    return options.check ? options.formula != NULL : optind == count;
+    while (optind < count) take_file(words[optind++]);  // after --
+}
+
+// Prints the help, or the version, in place of an answer.
+static void show(void) {
+    if (given[EXPECT]) errx(1, "--expect, but nothing is solved");      // trusted (help)
+    printf("%s", given[SHOW_HELP] ? is_check ? HELP_OF_CHECK : HELP : VERSION_LINE);
+    if (fflush(stdout) != 0) err(1, "cannot write to standard output");
+    exit(0);
+}
+
+static void read_expect(const char *word) {
+    if (strcmp(word, "sat") == 0 && !is_check) expected = "s SATISFIABLE";
+    if (strcmp(word, "unsat") == 0) expected = "s UNSATISFIABLE";
+    if (strcmp(word, "unsat-under-assumptions") == 0)
+        expected = "s UNSATISFIABLE UNDER ASSUMPTIONS";
+    const char *names = is_check ? "unsat or unsat-under-assumptions"
+                                 : "sat, unsat or unsat-under-assumptions";
+    if (expected == NULL) errx(1, "--expect takes %s, not %s", names, shown(word));
+}
+
+// The milliseconds of --time; more than a run can last, if it isn't given or very long.
+static long read_time(const char *word) {
+    const double longest = 1e9;
+    if (word == NULL) return (long)(1000 * longest);
+    char *end;
+    double seconds = strtod(word, &end);
+    bool is_number = strspn(word, "0123456789.") == strlen(word) && *end == 0;
+    if (!is_number || !(seconds > 0)) errx(1, "--time takes seconds above 0, not %s", shown(word));
+    return (long)(1000 * (seconds < longest ? seconds : longest));
 }
 
 static bool is_program(const char *path) {
@@ -149,10 +222,11 @@ static const char *find_program(const char *named, const char *name) {
 }
 
 // A name of the open file that works in all processes, even once its path leads to another file.
-static const char *name_of(int file) { return text("%s/fd/%d", self, file); }
+static const char *name_of(int file) { return text("%s/fd/%d", proc_self, file); }
 
-// A sealed copy of what can't be read twice. lrupd accepts at most 2^28 literals and clauses; each
-// needs at most ten bytes here: a sign, eight digits and a blank.
+// A sealed copy of what can't be read twice. lrupd accepts at most 2^28 literals and clauses. Each
+// needs at most ten bytes here, a sign, eight digits and a blank, unless there are more blanks or
+// comments. lrupd has no limit of bytes.
 static int copied(int file, const char *path) {
     static char bytes[1 << 16];
     int copy = memfd_create("lrup-solve", MFD_ALLOW_SEALING | MFD_CLOEXEC);
@@ -160,7 +234,8 @@ static int copied(int file, const char *path) {
     ssize_t count;
     while ((count = read(file, bytes, sizeof bytes)) > 0 && (left -= count) >= 0)
         if (write(copy, bytes, (size_t)count) != count) err(1, "cannot copy %s", path);
-    if (left < 0) errx(1, "%s: more than lrupd's limit of 2684354560 bytes", path);
+    if (left < 0)
+        errx(1, "%s: more than 2684354560 bytes, which lrup-solve doesn't copy: give a file", path);
     if (count < 0) err(1, "cannot read %s", path);
     if (fcntl(copy, F_ADD_SEALS, SEALS) != 0) err(1, "cannot seal %s", path);   // trusted (copy)
     return copy;
@@ -179,25 +254,43 @@ static const char *open_input(const char *path) {
 static void take_signs(const char *signs) {
     if (assignment == NULL) assignment = calloc(MOST_VARIABLES + 1, 1);
     if (assignment == NULL) err(1, "no memory");
-    for (; *signs != 0 && known < MOST_VARIABLES; signs++)
-        assignment[++known] = *signs == '+' ? 1 : -1;
+    for (; *signs != 0 && assigned < MOST_VARIABLES; signs++)
+        assignment[++assigned] = *signs == '+' ? 1 : -1;
 }
 
 static bool is_true(long literal) {
-    if (literal == 0 || literal < -known || literal > known) return false;
+    if (literal == 0 || literal < -assigned || literal > assigned) return false;
     return assignment[labs(literal)] == (literal > 0 ? 1 : -1);
+}
+
+// Whether the line is the header, and its two numbers.
+static bool read_header(const char *line, long *variables, long *clauses) {
+    int length = 0;
+    char *rest;
+    sscanf(line, " p cnf%n", &length);
+    if (length == 0) return false;
+    *variables = strtol(line + length, &rest, 10);
+    *clauses = strtol(rest, NULL, 10);
+    return true;
 }
 
 // Whether each clause has a true literal. Assumptions have no header, and each of them is a clause.
 // lrupd has accepted the file: besides the header it has only numbers, and comments (c ..).
 static bool satisfies(const char *path, bool is_formula) {
     FILE *file = fopen(path, "re");
-    char *line = NULL, *rest;
-    size_t size = 0;
-    long variables = known, clauses = is_formula ? -1 : 0, satisfied = 0;
+    char *line = NULL;
+    char *rest;
+    size_t size = 0;            // of `line`
+    long variables = assigned;
+    long clauses = 0;
+    long satisfied = 0;             // clauses
+    bool needs_header = is_formula;
     bool is_satisfied = false;      // the clause that is being read
     while (file != NULL && getline(&line, &size, file) > 0) {
-        if (clauses == -1 && sscanf(line, " p cnf %ld %ld", &variables, &clauses) == 2) continue;
+        if (needs_header && read_header(line, &variables, &clauses)) {
+            needs_header = false;
+            continue;
+        }
         for (char *at = line;; at = rest) {
             long literal = strtol(at, &rest, 10);
             if (rest == at) break;
@@ -209,15 +302,17 @@ static bool satisfies(const char *path, bool is_formula) {
         }
     }
     if (file == NULL || !feof(file)) return false;          // trusted (whole file)
-    if (variables != known) return false;                   // trusted (variables): all have values
+    if (variables != assigned) return false;                // trusted (variables): all have values
     if (satisfied != clauses) return false;                 // trusted (clauses): each one is true
     return true;
 }
 
+// Ten values a line, and a 0 at the end.
 static void print_assignment(void) {
-    printf(known > 0 ? "s SATISFIABLE" : "s SATISFIABLE\nv");
-    for (long k = 1; k <= known; k++) printf(k % 10 == 1 ? "\nv %ld" : " %ld", k * assignment[k]);
-    puts(" 0");
+    printf("s SATISFIABLE\nv");
+    for (long k = 1; k <= assigned; k++)
+        printf(k > 1 && k % 10 == 1 ? "\nv %ld" : " %ld", k * assignment[k]);  // trusted (values)
+    puts(" 0");                                             // trusted (end of values)
 }
 
 static long now(void) {
@@ -229,7 +324,7 @@ static long now(void) {
 static long least(long one, long other) { return one < other ? one : other; }
 
 static void stop_solving_within(long milliseconds) {
-    if (state == SOLVING) until = least(until, now() + milliseconds);
+    if (state == SOLVING) state_ends = least(state_ends, now() + milliseconds);
 }
 
 static bool is_running(enum which which) { return children[which].handle >= 0; }
@@ -249,7 +344,7 @@ static void start(enum which which, const char *const *words, int in, int out, i
         if (prctl(PR_SET_PDEATHSIG, number) != 0 || getppid() != parent) _exit(127);
         if (setpgid(0, 0) != 0 || dup2(in, 0) < 0 || dup2(error, 2) < 0) _exit(127);
         if (dup2(out, 1) < 0) _exit(127);   // trusted (output): not the front's
-        if (which == SUPERVISOR) supervise(words, &mask_before, heard[1], options.mpi != NULL);
+        if (which == SUPERVISOR) supervise(words, &mask_before, from_engines[1], given[MPI]);
         signal(SIGPIPE, SIG_DFL);
         sigprocmask(SIG_SETMASK, &mask_before, NULL);
         execv(words[0], (char **)words);    // execvp() would have a shell run an empty file
@@ -271,43 +366,63 @@ static void start_lrupd(enum which which, const struct request *request) {
     if (assume) words[count++] = text("--assume=%s", assume);       // trusted (lrupd reads them)
     if (which == LRUPD) words[count++] = "--rounds";
     if (which == LRUPD) words[count++] = folder;
-    if (which == LRUPD && options.verbose) words[count++] = "--watch";
+    if (which == LRUPD && given[VERBOSE]) words[count++] = "--watch";
     words[count++] = formula;               // trusted (formula): before the streams
     if (which == PROBE) words[count++] = "/dev/null";
     for (unsigned long k = 1; k <= request->streams; k++)
         words[count++] = text("%s/round-1.stream-%lu", folder, k);
     children[which].begins = lseek(children[which].output, 0, SEEK_END);
     if (children[which].begins < 0) err(1, "cannot find the end of lrupd's output");
-    start(which, words, null, children[which].output, children[which].output);
+    start(which, words, dev_null, children[which].output, children[which].output);
+}
+
+// Reads a blank and a number within this range, and moves behind both.
+static bool read_number(const char **line, unsigned long least, unsigned long most,
+                        unsigned long *number) {
+    const char *digits = *line + 1;
+    char *end;
+    if (**line != ' ' || *digits < '0' || *digits > '9') return false;
+    errno = 0;
+    *number = strtoul(digits, &end, 10);
+    *line = end;
+    return errno == 0 && least <= *number && *number <= most;
 }
 
 // Only numbers within their ranges reach lrupd's command line. Any other request ends the run.
-static void handle_request(const char *line) {
+static void handle_request(const char *words) {
     struct request request;
-    char more;
-    int count = sscanf(line, "check %lu %lu %lu %lu %lu %lu%c", &request.streams, &request.lines,
-                       &request.room, &request.tries, &request.pid, &request.file, &more);
-    bool is_right = count == 6 && request.streams >= 1 && request.streams <= MOST_STREAMS &&
-        request.lines <= MOST_SIZE && request.room <= MOST_SIZE && request.tries <= MOST_TRIES;
+    bool is_right = read_number(&words, 1, MOST_STREAMS, &request.streams) &&
+        read_number(&words, 0, MOST_SIZE, &request.lines) &&
+        read_number(&words, 0, MOST_SIZE, &request.room) &&
+        read_number(&words, 0, MOST_TRIES, &request.tries) &&
+        read_number(&words, 1, INT_MAX, &request.pid) &&
+        read_number(&words, 0, INT_MAX, &request.file) && *words == 0;
     if (is_right && children[LRUPD].pid == 0) start_lrupd(LRUPD, &request);
     else stop_solving_within(0);
 }
 
-// Reads a line of lrup-engines; false if there is none. A comment that would block is left out.
+// A comment that would block is left out.
+static void print_comment(const char *line) {
+    struct pollfd output = { STDOUT_FILENO, POLLOUT, 0 };
+    if (!given[QUIET] && !has_refused && poll(&output, 1, 0) > 0) puts(line);
+    fflush(stdout);
+}
+
+// Reads a line of lrup-engines; false if there is none.
 static bool read_line(void) {
     char line[BLOCK + 1] = "";
-    struct pollfd output = { STDOUT_FILENO, POLLOUT, 0 };
-    if (read(heard[0], line, BLOCK) <= 0) return false;
-    if (strncmp(line, "check", 5) == 0) handle_request(line);
+    if (read(from_engines[0], line, BLOCK) <= 0) return false;
+    if (strncmp(line, "check", 5) == 0) handle_request(line + 5);
     if (strncmp(line, "v ", 2) == 0) take_signs(line + 2);
     if (strcmp(line, "model") == 0) is_whole = true;
     if (strcmp(line, "refused") == 0) has_refused = true;
+    if (strcmp(line, "busy") == 0 && verdict && !ended_by)
+        state_ends = least(run_ends, now()) + GRACE;
     if (strncmp(line, "c ", 2) != 0) return true;           // trusted (comments): nothing else
     for (char *at = line; *at != 0; at++)
         if (*at < ' ' || *at > '~') *at = '?';              // trusted (one line): in ASCII
     line[BLOCK - 1] = 0;        // then the pipe takes it whole, with its line feed
-    if (!options.quiet && !has_refused && poll(&output, 1, 0) > 0) puts(line);
-    fflush(stdout);
+    print_comment(line);
     return true;
 }
 
@@ -320,7 +435,7 @@ static bool exited_with(enum which which, int status) {
 // The only place that sets the verdict.
 static void set_verdict(int status, const char *line) {
     char bytes[64] = "";
-    size_t length = strlen(line) + 1;
+    size_t length = strlen(line) + 1;       // with its line feed
     off_t at = lseek(children[LRUPD].output, 0, SEEK_END) - (off_t)length;
     if (pread(children[LRUPD].output, bytes, length, at) < 0) return;
     if (!exited_with(LRUPD, status)) return;                // trusted (exit)
@@ -334,8 +449,12 @@ static void set_verdict(int status, const char *line) {
 static void collect_end(enum which which) {
     struct child *child = &children[which];
     signal_group(which, SIGKILL);       // whatever it leaves in its group
-    if (waitid(P_PIDFD, (id_t)child->handle, &child->end, WEXITED | WNOHANG) != 0) err(1, "waitid");
-    if (child->end.si_pid == 0) return;         // another process still traces it
+    if (waitid(P_PIDFD, (id_t)child->handle, &child->end, WEXITED | WNOHANG) != 0)
+        err(1, "cannot collect the end of %s", child->name);
+    if (child->end.si_pid == 0) {       // another process still traces it: looks again soon
+        usleep(100000);
+        return;
+    }
     close(child->handle);
     child->handle = -1;
     if (which == LRUPD) set_verdict(UNSATISFIABLE, "s UNSATISFIABLE");
@@ -343,13 +462,13 @@ static void collect_end(enum which which) {
         set_verdict(UNDER_ASSUMPTIONS, "s UNSATISFIABLE UNDER ASSUMPTIONS");
     if (which == PROBE && !exited_with(PROBE, UNKNOWN)) stop_solving_within(GRACE);
     if (which == LRUPD && child->end.si_code != CLD_EXITED) child->pid = 0;     // may start again
-    else if (which == LRUPD && !(verdict && options.core_or_lrat)) stop_solving_within(GRACE);
-    dprintf(told[1], "%s %d %d\n", child->name, child->end.si_code, child->end.si_status);
+    else if (which == LRUPD) stop_solving_within(GRACE);
+    dprintf(to_engines[1], "%s %d %d\n", child->name, child->end.si_code, child->end.si_status);
 }
 
 static void handle_signal(void) {
     struct signalfd_siginfo found;
-    if (read(signals, &found, sizeof found) != sizeof found) return;
+    if (read(signals_held, &found, sizeof found) != sizeof found) return;
     if (found.ssi_signo == SIGTSTP) {
         signal_group(SUPERVISOR, SIGSTOP);      // lrupd then waits for streams
         raise(SIGSTOP);
@@ -359,16 +478,16 @@ static void handle_signal(void) {
     if (found.ssi_signo == SIGTSTP || ended_by != 0) return;
     ended_by = (int)found.ssi_signo;
     stop_solving_within(GRACE);
-    dprintf(told[1], "signal ended by a signal: %s\n", strsignal(ended_by));
+    dprintf(to_engines[1], "signal ended by a signal: %s\n", strsignal(ended_by));
 }
 
 static void await_event(void) {
     struct pollfd files[] = { { children[SUPERVISOR].handle, POLLIN, 0 },
                               { children[PROBE].handle, POLLIN, 0 },
                               { children[LRUPD].handle, POLLIN, 0 },
-                              { signals, POLLIN, 0 },
-                              { state == SOLVING ? heard[0] : -1, POLLIN, 0 } };
-    long left = least(until - now(), 60000);
+                              { signals_held, POLLIN, 0 },
+                              { state == SOLVING ? from_engines[0] : -1, POLLIN, 0 } };
+    long left = least(state_ends - now(), 60000);
     int ready = poll(files, CHILDREN + 2, left > 0 ? (int)left : 0);
     if (ready < 0 && errno != EINTR) err(1, "cannot wait");
     if (ready <= 0) return;
@@ -378,53 +497,54 @@ static void await_event(void) {
         if (files[which].revents != 0) collect_end((enum which)which);
 }
 
-// Returns the next state. Each state ends at `until` at the latest; SOLVING gets it from --time.
+// Returns the next state. Each state ends at `state_ends` at the latest.
 static enum state next(void) {
     switch (state) {
     case SOLVING:
-        if (is_running(SUPERVISOR) && !is_whole && now() < until) return SOLVING;
+        if (is_running(SUPERVISOR) && !is_whole && now() < state_ends) return SOLVING;
         for (int k = 0; k < 1000 && read_line(); k++) {}        // not for ever
+        if (is_running(SUPERVISOR) && verdict && given[CORE_OR_LRAT])
+            print_comment("c the file of --core or --lrat is missing: lrup-engines is late");
         if (is_running(SUPERVISOR)) kill(children[SUPERVISOR].pid, SIGTERM);
         signal_group(SUPERVISOR, SIGCONT);
         signal_group(LRUPD, SIGKILL);           // it writes to the folder that is removed now
-        until = now() + ENDING_TIME;            // fall through
+        state_ends = now() + ENDING_TIME;       // fall through
     case ENDING:
-        if ((is_running(SUPERVISOR) || is_running(LRUPD)) && now() < until) return ENDING;
+        if ((is_running(SUPERVISOR) || is_running(LRUPD)) && now() < state_ends) return ENDING;
         signal_group(SUPERVISOR, SIGKILL);
         signal_group(PROBE, SIGCONT);
-        until = least(latest, now() + READING_TIME);    // fall through
+        state_ends = least(run_ends, now() + READING_TIME);     // fall through
     case READING:
-        if (is_running(PROBE) && !verdict && !ended_by && now() < until) return READING;
+        if (is_running(PROBE) && !verdict && !ended_by && now() < state_ends) return READING;
         signal_group(PROBE, SIGKILL);           // fall through
     default: return OVER;
     }
 }
 
-static int as_expected(const char *line) {      // returns 0 only for the line that --expect names
-    const char *both = text("%s: %s", options.expect, line);
-    if (strcmp(both, "sat: s SATISFIABLE") == 0) return 0;
-    if (strcmp(both, "unsat: s UNSATISFIABLE") == 0) return 0;
-    if (strcmp(both, "unsat-under-assumptions: s UNSATISFIABLE UNDER ASSUMPTIONS") == 0) return 0;
-    errx(1, "--expect %s, but the answer is %s", options.expect, line);
-}
-
+// Prints the answer, and returns the status. If there is an answer, the status is the answer's,
+// whatever else lrup-engines couldn't do.
 static int answer(void) {
-    bool is_read = exited_with(PROBE, UNKNOWN), is_satisfied = is_whole && !verdict;
+    bool is_read = exited_with(PROBE, UNKNOWN);
     bool is_refused = children[PROBE].end.si_code == CLD_EXITED && !is_read;    // by lrupd
+    bool is_satisfied = is_whole && !verdict;
+    if (is_refused && !has_refused && !verdict && !ended_by) errx(1, "lrupd didn't accept FORMULA");
+    sigprocmask(SIG_SETMASK, &mask_before, NULL);   // signals may end a long evaluation or write
     if (!is_read) is_satisfied = false;                    // trusted (refused): no accepted formula
     if (is_satisfied && !satisfies(formula, true)) is_satisfied = false;        // trusted (model)
     if (assume && is_satisfied) is_satisfied = satisfies(assume, false);        // trusted (assumed)
-    if (is_refused && !has_refused && !verdict && !ended_by) errx(1, "lrupd didn't accept FORMULA");
-    sigprocmask(SIG_SETMASK, &mask_before, NULL);           // a signal may end a blocked write
+    bool is_answer = is_satisfied || verdict;
     const char *line = is_satisfied ? "s SATISFIABLE" : verdict ? verdict : "s UNKNOWN";
     if (is_satisfied) print_assignment();
-    else if (verdict || !has_refused) puts(line);
-    if (fflush(stdout) != 0 || ferror(stdout)) err(1, "cannot write the answer");
+    else if (is_answer || !has_refused) puts(line);
+    if (fflush(stdout) != 0 || ferror(stdout)) err(1, "cannot write the answer");  // trusted (end)
     if (ended_by != 0) raise(ended_by);
-    if (has_refused) return 1;
-    if (options.expect) return as_expected(line);           // trusted (expected)
-    if (verdict) return 20;
-    return is_satisfied ? 10 : 0;
+    if (has_refused && !is_answer) return 1;
+    bool is_expected = expected != NULL && strcmp(line, expected) == 0;
+    if (given[EXPECT] && !is_expected)
+        warnx("--expect %s, but the answer is %s", given[EXPECT], line);
+    if (given[EXPECT]) return is_expected ? 0 : 1;          // trusted (expected)
+    if (!is_answer) return 0;
+    return verdict ? 20 : 10;
 }
 
 // From now on these signals are read as they come, unless the caller ignores them, as nohup does.
@@ -436,35 +556,39 @@ static void hold_signals(void) {
         if (signal(numbers[k], SIG_DFL) == SIG_IGN) signal(numbers[k], SIG_IGN);
         else sigaddset(&held, numbers[k]);
     sigprocmask(SIG_BLOCK, &held, &mask_before);
-    signals = signalfd(-1, &held, SFD_CLOEXEC | SFD_NONBLOCK);
+    signals_held = signalfd(-1, &held, SFD_CLOEXEC | SFD_NONBLOCK);
     signal(SIGXFSZ, SIG_IGN);
     signal(SIGPIPE, SIG_IGN);
     signal(SIGCHLD, SIG_DFL);       // if ignored, the system would reap children
 }
 
 int main(int count, char **words) {
-    while ((null = open("/dev/null", O_RDONLY)) >= 0 && null <= 2) {}   // 0 to 2 are open now
-    bool is_usable = read_words(count, words);
-    words[0] = (char *)find_program(options.engines, "lrup-engines");
-    bool is_help = options.help && !options.expect;     // lrup-engines gives the status
-    if (is_help && execv(words[0], words) != 0) err(1, "cannot start %s", words[0]);
-    lrupd = find_program(options.lrupd, "lrupd");
-    self = realpath("/proc/self", NULL);    // this /proc may belong to another namespace
-    if (self == NULL || null < 0) err(1, "cannot open /proc/self or /dev/null");
-    formula = is_usable ? open_input(options.formula ? options.formula : "-") : name_of(-1);
-    if (is_usable && options.assume) assume = open_input(options.assume);   // trusted (assume)
+    if (getenv("LRUP_FRONT")) errx(1, "started by another lrup-solve");     // or it might never end
+    while ((dev_null = open("/dev/null", O_RDONLY)) >= 0 && dev_null <= 2) {}   // opens 0 to 2
+    read_words(count, words);                               // trusted (words)
+    if (given[SHOW_HELP] || given[SHOW_VERSION]) show();
+    if (is_check && files_given < 2) errx(1, "no proof: lrup-check FORMULA PROOF");
+    if (given[EXPECT]) read_expect(given[EXPECT]);
+    long time = read_time(given[TIME]);
+    words[0] = (char *)find_program(given[ENGINES_PATH], "lrup-engines");
+    lrupd = find_program(given[LRUPD_PATH], "lrupd");
+    proc_self = realpath("/proc/self", NULL);   // this /proc may belong to another namespace
+    if (proc_self == NULL || dev_null < 0) err(1, "cannot open /proc/self or /dev/null");
+    formula = open_input(given[FORMULA] ? given[FORMULA] : "-");
+    if (given[ASSUME]) assume = open_input(given[ASSUME]);  // trusted (assume)
     hold_signals();
     for (int k = PROBE; k <= LRUPD; k++) children[k].output = memfd_create("output", MFD_CLOEXEC);
-    int failed = pipe2(told, O_CLOEXEC | O_NONBLOCK) | pipe2(heard, O_CLOEXEC | O_NONBLOCK);
-    if (failed || signals < 0) err(1, "cannot make pipes");
-    setenv("LRUP_FRONT", text("%d %d %d %d %s %s %s", told[0], heard[1], children[PROBE].output,
-                              children[LRUPD].output, formula, assume ? assume : "-", lrupd), 1);
-    double seconds = options.seconds ? strtod(options.seconds, NULL) : 0;
-    bool is_limited = seconds > 0 && seconds < 1e9;
-    latest = is_limited ? now() + (long)(1000 * seconds) : 1L << 60;
-    until = latest + GRACE;     // lrup-engines ends by itself before then
-    start(SUPERVISOR, (const char *const *)words, STDIN_FILENO, null, STDERR_FILENO);
+    if (pipe2(to_engines, O_CLOEXEC | O_NONBLOCK) != 0) err(1, "cannot make a pipe");
+    if (pipe2(from_engines, O_CLOEXEC | O_NONBLOCK) != 0) err(1, "cannot make a pipe");
+    if (signals_held < 0) err(1, "cannot hold signals");
+    const char *files = text("%d %d %d %d %s %s %s", to_engines[0], from_engines[1],
+                             children[PROBE].output, children[LRUPD].output, formula,
+                             assume ? assume : "-", lrupd);
+    if (setenv("LRUP_FRONT", files, 1) != 0) err(1, "no memory");
+    run_ends = now() + time;
+    state_ends = run_ends + GRACE;      // lrup-engines ends by itself before then
+    start(SUPERVISOR, (const char *const *)words, STDIN_FILENO, dev_null, STDERR_FILENO);
     start_lrupd(PROBE, &(struct request){ .streams = 0 });
     while ((state = next()) != OVER) await_event();
-    return answer();
+    return answer();                                        // trusted (answer)
 }
