@@ -281,7 +281,8 @@ def few_processes(work: Path) -> Iterator[Callable[[], None]]:
         group = place / f"lrup-{os.getpid()}"
         try:
             group.mkdir()
-            (group / "pids.max").write_text(str(PROCESSES))
+            with open(group / "pids.max", "r+") as most:
+                most.write(str(PROCESSES))
         except OSError:
             with contextlib.suppress(OSError):
                 group.rmdir()
