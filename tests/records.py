@@ -7,7 +7,7 @@ import re
 import signal
 import subprocess
 from pathlib import Path
-from typing import Callable, Dict, List, Mapping, Optional, Sequence
+from typing import Callable, Dict, List, Mapping, Optional, Sequence, Tuple
 
 from harness import TRIM, run, started, until, want
 from lrat import lrat_fault
@@ -44,6 +44,17 @@ def recorded(words: Sequence[object], kept: Path, least: int,
 def checkpoints(kept: Path) -> List[str]:
     return sorted(path.name for path in kept.iterdir()
                   if re.match(r"\.|checkpoint|rounds", path.name))
+
+
+def way_on(answer: Answer, kept: Path, formula: Path) -> Tuple[int, bool]:
+    """What the comment says: the number of saved rounds, and whether something is lost. It also
+    shows the command that resumes the run."""
+    said = [re.fullmatch(rf"{kept} has (\d+) rounds?(, but not what came after)?: lrup-solve "
+                         rf"--resume {kept} {formula} continues the run",
+                         line) for line in answer.comments]
+    found = [one for one in said if one]
+    want(len(found), 1, f"whether a comment says how to continue, in\n{answer.out}{answer.said}")
+    return int(found[0][1]), found[0][2] is not None
 
 
 def whole(kept: Path, formula: Path, work: Path) -> None:

@@ -29,7 +29,7 @@ ELIMINATING = "elimint=1 compact=0"
 FRONT, READING = "lrup-solve", "its reading"      # the front, and the lrupd that reads the formula
 ANSWERS = {0: VERDICTS[3], 10: "s SATISFIABLE", 20: VERDICTS[0]}
 # The front includes the texts of --help, which `make` has put beside the first build's objects.
-FRONTS_FLAGS = ["-std=c11", f"-I{SOLVE}.objects", '-DVERSION="of a test"']
+FRONTS_FLAGS = ["-std=c11", f"-I{BUILD / 'objects'}", '-DVERSION="of a test"']
 
 
 class Answer:

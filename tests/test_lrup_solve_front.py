@@ -405,9 +405,9 @@ with open(sys.argv[1], "w") as proof:
     came_again(work)
 
 
-def asked_again(body: str, wanted: str, text: str, how: str, work: Path) -> None:
-    """lrupd waits for its stream, and is killed; then the program asks for another lrupd, which
-    begins with the formula. The formula is named, or comes from a pipe."""
+def asked_again(body: str, text: str, how: str, work: Path) -> None:
+    """lrupd waits for its stream, and is killed; then the program asks for another lrupd, and there
+    is none. The formula is named, or comes from a pipe."""
     begin = AGAIN + """
 def killed():
     os.mkfifo(folder + '/round-1.stream-1')
@@ -424,26 +424,24 @@ hears('probe')
     given = {"given": text} if how == "by a pipe" else {}
     answer = run_with(begin + body, ["--time", "1" if how == "for a second" else "15"],
                       text, work, **given)
-    status = {"s UNKNOWN": 0, "s UNSATISFIABLE": 20}[wanted]
-    want((answer.answers, answer.status), ([wanted], status),
+    want((answer.answers, answer.status), (["s UNKNOWN"], 0),
          f"the answer of\n{answer.out}{answer.said}")
     if "again(" in body:
         came_again(work)
 
 
-def asked_for_more(body: str, starts: int, wanted: str, work: Path) -> None:
-    """A program in lrupd's place counts its starts while it is requested three times. It is started
-    again only if a signal has ended it, and nothing that was written before counts."""
+def asked_for_more(body: str, work: Path) -> None:
+    """A program in lrupd's place counts its starts while it is requested three times: it is started
+    once, however it ends."""
     lrupd = in_place_of_lrupd(f"case \"$*\" in *' /dev/null') exit 3;; esac\n"
                               f"echo x >> {work}/starts; count=$(wc -l < {work}/starts)\n{body}",
                               work)
     asks = ("hears('probe')\nstream(1, '')\ncheck()\nhears('lrupd')\ncheck()\ntime.sleep(0.5)\n"
             "check()\ntime.sleep(0.5)")
     answer = run_with(asks, [], SATISFIABLE, work, lrupd)
-    status = {"s UNKNOWN": 0, "s UNSATISFIABLE": 20}[wanted]
-    want((answer.answers, answer.status), ([wanted], status),
+    want((answer.answers, answer.status), (["s UNKNOWN"], 0),
          f"the answer of\n{answer.out}{answer.said}")
-    want(len((work / "starts").read_text().splitlines()), starts, "how many times it is started")
+    want(len((work / "starts").read_text().splitlines()), 1, "how many times it is started")
 
 
 def reading_stopped(work: Path) -> None:
@@ -602,37 +600,31 @@ def rows() -> List[Row]:
     forged, takes_id = "forge('s UNSATISFIABLE')", "again({}, 0, here + '/again')"
     for how in ("named", "by a pipe"):
         listed += [
-            (f"{name}, {how}", asked_again, body, line, text, how) for name, body, text, line in (
-                ("killed, and a proof", again.format(PROOF), FOUR, proved),
-                ("killed twice, and a proof", "killed()\n" + again.format(PROOF), FOUR, proved),
-                ("killed, and no proof", again.format(""), FOUR, unknown),
-                ("killed, and another's proof", again.format(PROOF), SATISFIABLE, unknown),
+            (f"{name}, {how}", asked_again, body, text, how) for name, body, text in (
+                ("killed, and a proof", again.format(PROOF), FOUR),
+                ("killed twice, and a proof", "killed()\n" + again.format(PROOF), FOUR),
+                ("killed, and no proof", again.format(""), FOUR),
+                ("killed, and another's proof", again.format(PROOF), SATISFIABLE),
                 ("killed, and a forged line",
-                 f"killed()\n{forged}\nstream(1, '')\ncheck()\n{ends}\n{forged}",
-                 SATISFIABLE, unknown),
+                 f"killed()\n{forged}\nstream(1, '')\ncheck()\n{ends}\n{forged}", SATISFIABLE),
                 ("killed, and its id again", f"pid = killed()\n{forged}\n{takes_id.format('pid')}\n"
-                                             f"stream(1, '')\ncheck()\n{ends}",
-                 SATISFIABLE, unknown),
+                                             f"stream(1, '')\ncheck()\n{ends}", SATISFIABLE),
                 ("killed, its id again, and nothing", f"{takes_id.format('killed()')}\n{forged}",
-                 SATISFIABLE, unknown))]
-    listed += [(name, asked_again, body, unknown, SATISFIABLE, "for a second")
+                 SATISFIABLE))]
+    listed += [(name, asked_again, body, SATISFIABLE, "for a second")
                for name, body in (("killed without end", "while True: killed()"),
                                   ("killed, and it stays", "killed()\ntime.sleep(1000)"))]
     dead = "kill -9 $$"
     listed += [
-        (f"asked for more: {body}", asked_for_more, body, starts, line) for body, starts, line in (
-            (dead, 3, unknown), ("kill -SEGV $$", 3, unknown), ("exit 3", 1, unknown),
-            ("exit 0", 1, unknown), ("exit 137", 1, unknown),
-            (f"[ $count -gt 1 ] || {dead}; exit 3", 2, unknown),
-            (f"echo s UNSATISFIABLE; {dead}", 3, unknown),
-            (f"[ $count -gt 1 ] || {{ echo s UNSATISFIABLE; {dead}; }}; exit 0", 2, unknown),
-            (f"[ $count -gt 1 ] || {{ echo s UNSATISFIABLE; {dead}; }}; echo s UNKNOWN; exit 0",
-             2, unknown),
-            (f"[ $count -gt 1 ] || {{ printf 's UNSAT'; {dead}; }}; echo ISFIABLE; exit 0",
-             2, unknown),
-            (f"[ $count -gt 1 ] || {{ echo s UNKNOWN; {dead}; }}; echo s UNSATISFIABLE; exit 0", 2,
-             proved), (f"[ $count -gt 1 ] || {{ echo s UNSATISFIABLE; {dead}; }}; echo s "
-                       "UNSATISFIABLE; exit 3", 2, unknown))]
+        (f"asked for more: {body}", asked_for_more, body) for body in (
+            dead, "kill -SEGV $$", "exit 3", "exit 0", "exit 137",
+            f"[ $count -gt 1 ] || {dead}; exit 3", f"echo s UNSATISFIABLE; {dead}",
+            f"[ $count -gt 1 ] || {{ echo s UNSATISFIABLE; {dead}; }}; exit 0",
+            f"[ $count -gt 1 ] || {{ echo s UNSATISFIABLE; {dead}; }}; echo s UNKNOWN; exit 0",
+            f"[ $count -gt 1 ] || {{ printf 's UNSAT'; {dead}; }}; echo ISFIABLE; exit 0",
+            f"[ $count -gt 1 ] || {{ echo s UNKNOWN; {dead}; }}; echo s UNSATISFIABLE; exit 0",
+            f"[ $count -gt 1 ] || {{ echo s UNSATISFIABLE; {dead}; }}; echo s UNSATISFIABLE; "
+            "exit 3")]
     listed += [("lrupd's id again", checkers_id_again),
                ("the reading's id again", readers_id_again),
                ("lrupd's id again, by a solver", solvers_id_again),

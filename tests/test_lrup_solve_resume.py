@@ -230,17 +230,6 @@ ENDS = {signal.SIGTERM: "Terminated", signal.SIGINT: "Interrupt", signal.SIGHUP:
         None: "time is up"}
 
 
-def way_on(answer: Answer, kept: Path, formula: Path) -> Tuple[int, bool]:
-    """What the comment says: the number of saved rounds, and whether something is lost. It also
-    shows the command that resumes the run."""
-    said = [re.fullmatch(rf"{kept} has (\d+) rounds?(, but not what came after)?: lrup-solve "
-                         rf"--resume {kept} {formula} continues the run",
-                         line) for line in answer.comments]
-    found = [one for one in said if one]
-    want(len(found), 1, f"whether a comment says how to continue, in\n{answer.out}{answer.said}")
-    return int(found[0][1]), found[0][2] is not None
-
-
 def saved_at_the_end(number: Optional[signal.Signals], tested: Mapping[str, object],
                      work: Path) -> None:
     """The current round is saved, within some seconds, and the run can be resumed from there."""

@@ -312,11 +312,9 @@ def killed(names: List[str], status: int, cause: str, work: Path) -> None:
 
 def killed_in_a_pause(names: List[str], status: int, cause: str, options: Sequence[str],
                       work: Path) -> None:
-    """A filter dies while it waits for lrupd to save: others may still take over what it gave away.
-    With a record, another lrupd saves what the killed one hasn't saved."""
+    """A filter dies while it waits for lrupd to save: others may still take over what it gave
+    away."""
     kill([word.format(work=work) for word in options], 1, True, 150000, names, status, cause, work)
-    if options:
-        check_again(work / "kept")
 
 
 def checker_killed(work: Path) -> None:
@@ -558,19 +556,19 @@ def known() -> List[Row]:
 
 
 def what_happens() -> List[Row]:
-    again = "lrupd ended by a signal: Killed, and is started again"
+    is_killed = "lrupd ended by a signal: Killed$"
     rows: List[Row] = [
         ("lrupd killed", checker_killed),
-        ("lrupd killed, with a record", killed, ["lrupd"], 20, again),
+        ("lrupd killed, with a record", killed, ["lrupd"], 0, "continues the run$"),
         ("an engine killed", killed, ["engine 2"], 20, "engine 2 is lost"),
         ("a filter killed", killed, ["filter 1"], 20, "engine 1 is lost"),
         ("two killed", killed, ["engine 3", "filter 2"], 20, "engine 2 is lost"),
         ("all killed", killed, ["filter 1", "filter 2", "filter 3"], 0, "no engine is left"),
         ("a filter killed in a pause", killed_in_a_pause, ["filter 2"], 20, "engine 2 is lost", []),
-        ("lrupd killed in a pause, with a record", killed_in_a_pause, ["lrupd"], 20, again,
+        ("lrupd killed in a pause, with a record", killed_in_a_pause, ["lrupd"], 0, is_killed,
          ["--proofs", "{work}/kept"]),
         ("lrupd and a filter killed in a pause, with a record", killed_in_a_pause,
-         ["lrupd", "filter 2"], 20, again, ["--proofs", "{work}/kept"]),
+         ["lrupd", "filter 2"], 0, is_killed, ["--proofs", "{work}/kept"]),
         ("all filters killed in a pause", killed_in_a_pause, [f"filter {k}" for k in (1, 2, 3)], 0,
          "no engine is left", []),
         ("nobody looks in a round", nobody_looks, False),

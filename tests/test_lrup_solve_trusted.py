@@ -190,12 +190,6 @@ ATTACKS: Dict[str, Attack] = {
         front, work, "hears('probe')\nstream(1, '')\ncheck()\nhears('lrupd')",
         lrupd=in_place_of_lrupd("echo another program; case \"$*\" in *' /dev/null') exit 3;; esac",
                                 work)).answers,
-    "own line": lambda front, work: UNSATISFIABLE in answer_of(
-        front, work,
-        "hears('probe')\nstream(1, '')\ncheck()\nhears('lrupd')\ncheck()\nhears('lrupd')",
-        lrupd=in_place_of_lrupd(
-            f"case \"$*\" in *' /dev/null') exit 3;; esac\n[ ! -e {work}/killed ] || exit 0\n"
-            f"> {work}/killed\necho {UNSATISFIABLE}\nkill -9 $$", work)).answers,
     "refused": lambda front, work: answer_of(
         front, work, "hears('probe')\nmodel('+')\ntime.sleep(0.5)", text="p cnf 1 1\n1 -2 0\n",
         lrupd=in_place_of_lrupd("kill -9 $$", work)).status == 10,

@@ -185,19 +185,6 @@ void Checker::start(Row row, const std::vector<int> &files) {
     expect(front.output_of_lrupd);
 }
 
-bool Checker::was_killed() const { return child.ended() && WIFSIGNALED(child.status); }
-
-// Call once all output of the killed lrupd has been read. Another lrupd appends to the same file.
-void Checker::renew() {
-    opener.end();
-    close_file(sizes);
-    for (Stream &stream : streams) close_file(stream.pipe);
-    Checker another;
-    another.keeps_digests = keeps_digests;
-    another.written = written;
-    *this = another;
-}
-
 // Between rounds lrupd opens the sizes first, and then the streams in order. Each open waits for a
 // writer.
 void Checker::expect_round(const std::string &path) {

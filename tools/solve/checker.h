@@ -19,7 +19,6 @@ public:
     void ask(const std::string &path);
     bool has_opened(std::string &path);     // the first path asked for; the opener waits for go_on
     void go_on();
-    void end();
     pollfd says() const { return { socket, POLLIN, 0 }; }   // to wait until something was opened
 
 private:
@@ -43,8 +42,6 @@ public:
     void expect(const std::string &path);   // lrupd runs, or will; path: the file with its output
     // asks the front to start it; round 1 reads these files
     void start(Row row, const std::vector<int> &files);
-    bool was_killed() const;                // a signal has ended it
-    void renew();                           // call if it was killed; then another lrupd may start
 
     // Call expect_round before a round's streams end, with the beginning of the names that the next
     // round's files have in lrupd's folder. Once lrupd has saved the round, begin_round gives it

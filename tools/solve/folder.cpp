@@ -23,15 +23,13 @@ int place = -1, folder_file = -1;           // the parent folder; the folder its
 Pipe life;                                  // closed when this process ends
 pid_t cleaner = 0;
 
-// In the first process or the cleaner's, like the next three. Removes everything whose name has
-// this beginning, using only descriptors, since a name may lead to another file by now. Closes
-// `file`.
-void remove_within(int file, const std::string &beginning = "") {
+// In the first process or the cleaner's, like the next three. Removes everything in the folder, using
+// only descriptors, since a name may lead to another file by now. Closes `file`.
+void remove_within(int file) {
     DIR *list = file < 0 ? nullptr : fdopendir(file);
     while (const dirent *entry = list ? readdir(list) : nullptr) {
         const std::string name = entry->d_name;
-        bool is_meant = name != "." && name != ".." && name.compare(0, beginning.size(), beginning) == 0;
-        if (!is_meant || unlinkat(file, name.c_str(), 0) == 0) continue;
+        if (name == "." || name == ".." || unlinkat(file, name.c_str(), 0) == 0) continue;
         remove_within(openat(file, name.c_str(), O_RDONLY | O_DIRECTORY | O_NOFOLLOW | O_CLOEXEC));
         unlinkat(file, name.c_str(), AT_REMOVEDIR);
     }
@@ -143,10 +141,6 @@ std::string Folder::room() {
     uint64_t left = fstatvfs(place, &found) == 0 ? uint64_t(found.f_bavail) * found.f_frsize : 0;
     std::string within = quoted(path.substr(0, path.rfind('/')));
     return "TMPDIR (" + within + ") has " + std::to_string(left / 1000000) + " MB left";
-}
-
-void Folder::remove_rounds() {
-    remove_within(openat(folder_file, ".", O_RDONLY | O_DIRECTORY | O_CLOEXEC), "round-");
 }
 
 // This process removes the folder itself, since the cleaner may be stopped.

@@ -65,9 +65,3 @@ void Opener::go_on() {
     asked.pop_front();
     say(asked.empty() ? "" : asked.front());
 }
-
-void Opener::end() {
-    child.signal(SIGKILL);
-    wait_for(child);
-    close_file(socket);
-}

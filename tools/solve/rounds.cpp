@@ -14,7 +14,6 @@ namespace {
 const uint64_t SHORT_STREAMS = UINT64_C(1) << 20;   // bytes in all streams before lrupd starts
 const uint64_t ALL_FED = UINT64_MAX / 2;     // more bytes than a stream has, so no filter waits
 const double CROWDED = 0.75;        // how much of the largest row the live clauses may take
-const int MOST_STARTS = 3;          // how many times lrupd may start before it saves a new round
 
 std::string in_a_row_of(uint64_t words) { return " in a row of " + counted(8 * words, "byte"); }
 
@@ -288,34 +287,12 @@ void Rounds::start_checker(Row wanted) {
     if (!goes_on) rows.row = wanted;
     wanted = first = goes_on ? ended.row(1) : wanted;
     checked = 1;
-    starts++;
     keep_sizes();
     display.tell_more(is_utf8(record) ? command_of(wanted, "") :
                       "cd " + quoted(record) + " && " + command_of(wanted, record));
     if (goes_on) open_saved();
     checker.start(wanted, goes_on ? saved_streams : teams.stream_files());
     if (goes_on) checker.expect_round(Folder::name() + "/" + name_of_round(checked + 1));
-}
-
-// The record has what the killed lrupd read. The next lrupd may be killed, too, so the number of
-// starts is limited.
-bool Rounds::may_check_again() {
-    if (!checker.was_killed()) return false;
-    teams.look_at_record();
-    return inputs.options.record && teams.lost.empty() && starts < MOST_STARTS;
-}
-
-// Not called while filters read what the killed lrupd has saved. An unfinished save is repeated.
-std::string Rounds::check_again() {
-    const std::string missing = ended.missing();
-    if (!missing.empty()) return ", and " + missing + " is gone";
-    if (state == SAVING) state = ENDING;
-    for (int &file : saved_streams) close_file(file);
-    compared = 0;
-    checker.renew();
-    Folder::remove_rounds();
-    start_checker(rows.row);
-    return "";
 }
 
 void Rounds::open_saved() {
@@ -474,13 +451,6 @@ void Rounds::keep_checkpoint() {
     saver.save(number + 1, inputs.options.record, teams.shared->checkpoint, checker.digests);
 }
 
-// Keeps what another lrupd needs to read the round again.
-void Rounds::keep_round(uint64_t streams) {
-    if (inputs.options.record) ended.add(inputs.options.record, streams, rows.row);
-    for (; compared < checker.digests.size(); compared++) ended.add_digest(checker.digests[compared]);
-    starts = 0;
-}
-
 // Empty if nothing was saved.
 std::string Rounds::how_to_go_on() {
     std::string unsaved = saver.end();
@@ -519,7 +489,6 @@ std::string Rounds::map_round() {
     checkpoint_read(&saved, teams.shared->checkpoint);
     said = words(streams);
     keep_checkpoint();
-    keep_round(streams);
     if (ends_here) {
         state = SAVED;
         next = number + 1;

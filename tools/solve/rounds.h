@@ -31,8 +31,6 @@ public:
         : inputs(its_inputs), teams(its_teams), checker(its_checker), display(its_display) {}
     void begin(const std::string &program);     // lrupd's path
     std::string beginning() const;              // a message about a resumed run
-    bool may_check_again();                     // whether another lrupd may replace a killed one
-    std::string check_again();                  // starts that lrupd; returns why it can't, or ""
     std::string look();                         // returns why the run can't continue, or ""
     std::string feed(bool is_last);             // feeds lrupd; returns why it can't, or ""
     bool is_behind() const { return checked < number; }     // lrupd still checks earlier rounds
@@ -49,8 +47,7 @@ private:
     Checker &checker;
     const Display &display;
     std::string checker_program, said;
-    int starts = 0;                             // of lrupd, since it last saved a new round
-    SavedRounds ended;                          // those before `number`, which lrupd gets again
+    SavedRounds ended;                          // of a resumed run: those that lrupd gets first
     Row first = {};                             // of round 1
     std::vector<int> saved_streams;             // of the saved round that lrupd is in; their sizes
     std::vector<uint64_t> saved_bytes;
@@ -77,7 +74,6 @@ private:
     bool has_lines() const;                     // new ones in this round
     bool has_more() const;
     void keep_checkpoint();
-    void keep_round(uint64_t streams);
     void end_round(bool full);
     std::string map_round();
     void begin_round();

@@ -142,8 +142,7 @@ void Run::look() {
     Rounds::State state_before = rounds.state;
     std::string why = why_it_ends();
     if (!why.empty()) return finish(UNKNOWN_ANSWER, why);
-    look_at_killed();
-    if (phase != DONE) look_at_reading();
+    look_at_reading();
     if (phase == SOLVING) look_at_teams();
     if (phase == SOLVING && rounds.state == Rounds::OPEN) look_at_solving();
     if (phase == SOLVING) look_at_checker();
@@ -152,17 +151,6 @@ void Run::look() {
     if (!why.empty()) finish(UNKNOWN_ANSWER, why);
     if (phase == CHECKING && checker.child.ended()) verdict();
     loop.looks_again = phase != DONE && (phase != phase_before || rounds.state != state_before);
-}
-
-bool Run::may_check_again() { return asked.empty() && rounds.may_check_again(); }
-
-// Starts another lrupd once no filter reads what the killed one has saved. Engines continue.
-void Run::look_at_killed() {
-    if (!may_check_again() || rounds.state == Rounds::MAPPING) return;
-    display.show_lines();
-    display.tell_more("lrupd " + checker.child.end() + ", and is started again");
-    std::string why = rounds.check_again();
-    if (!why.empty()) finish(UNKNOWN_ANSWER, end_of_checker() + why);
 }
 
 void Run::look_at_reading() {
@@ -289,7 +277,7 @@ void Run::look_at_model(size_t k) {
 void Run::look_at_checker() {
     bool is_proved = checker.child.ended_with(0) || checker.child.ended_with(8);
     if (is_proved || (checker.child.ended() && rounds.state == Rounds::SAVING)) return verdict();
-    if (checker.child.ended() && !may_check_again()) return finish(UNKNOWN_ANSWER, end_of_checker());
+    if (checker.child.ended()) return finish(UNKNOWN_ANSWER, end_of_checker());
     std::string why = rounds.look();
     if (!why.empty()) finish(UNKNOWN_ANSWER, why);
 }

@@ -58,9 +58,7 @@ private:
     std::string why_it_ends();
     std::string why_it_is_asked() const;
     bool saves_first();
-    bool may_check_again();
     void look();
-    void look_at_killed();
     void look_at_reading();
     void look_at_solving();
     void look_at_teams();

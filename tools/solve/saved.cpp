@@ -96,22 +96,6 @@ void SavedRounds::read(const std::string &record) {
         refuse_file(folder + LIST_OF_ROUNDS + " names other files than a run saves");
 }
 
-void SavedRounds::add(const std::string &record, size_t streams, Row row) {
-    folder = record + "/";
-    sizes.push_back({ streams, row });
-}
-
-void SavedRounds::add_digest(const std::string &line) {
-    digests[line.substr(BEFORE_NAME)] = line.substr(0, DIGEST_DIGITS);
-}
-
-std::string SavedRounds::missing() const {
-    for (uint64_t round = 1; round <= count(); round++)
-        for (size_t k = 1; k <= streams(round); k++)
-            if (!is_there(folder + stream_name(round, k))) return folder + stream_name(round, k);
-    return "";
-}
-
 int SavedRounds::open_stream(uint64_t round, size_t number) const {
     const std::string name = stream_name(round, number);
     if (digests.count(name) == 0) refuse_file(folder + LIST_OF_ROUNDS + " doesn't name " + name);

@@ -12,13 +12,10 @@
 
 extern const char NOT_RESUMED[];        // the end of a message
 
-// The rounds that an earlier run saved, and then those that this run adds.
+// The rounds that an earlier run saved.
 class SavedRounds {
 public:
     void read(const std::string &record);               // refuses a record that can't be right
-    void add(const std::string &record, size_t streams, Row row);   // the next round
-    void add_digest(const std::string &line);           // of its sizes, or of a stream
-    std::string missing() const;                        // a stream that isn't there; or ""
     uint64_t count() const { return sizes.size(); }
     size_t streams(uint64_t round) const { return sizes[round - 1].streams; }
     Row row(uint64_t round) const { return sizes[round - 1].row; }

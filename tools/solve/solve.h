@@ -114,7 +114,6 @@ namespace Folder {
     std::string numbers();          // this process's id, and the folder's descriptor, for the front
     std::string open_name();        // its name for other processes, in UTF-8
     std::string room();             // the space left there, in words
-    void remove_rounds();           // pipes, and what lrupd has saved
     void remove();
 }
 

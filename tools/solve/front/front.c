@@ -7,20 +7,20 @@
 // No other process can bring about a wrong answer. The front opens the formula before it starts
 // anything, and gives lrupd that open file. It starts lrupd and the probe itself, and collects the
 // exit status of each through a pidfd, opened while only the front can wait for that child. Process
-// ids are never compared, and orphans go to the supervisor. Only lrupd's own exit status sets
-// `verdict`, in one place. If a signal ends lrupd, another lrupd may start, at the formula's first
-// byte. No other process gets the front's standard output. From lrup-engines the front prints only
-// comments, in ASCII, and an assignment that satisfies each clause. Lines on which this rests are
-// marked `trusted`; others can at worst prevent an answer. Other processes mustn't trace the front
-// or lrupd, replace lrupd, or write to the formula's file or the user's output (docs/SECURITY.md).
+// ids are never compared, and orphans go to the supervisor. lrupd starts once, and only its own exit
+// status sets `verdict`, in one place. No other process gets the front's standard output. From
+// lrup-engines the front prints only comments, in ASCII, and an assignment that satisfies each
+// clause. Lines on which this rests are marked `trusted`; others can at worst prevent an answer.
+// Other processes mustn't trace the front or lrupd, replace lrupd, or write to the formula's file or
+// the user's output (docs/SECURITY.md).
 //
 // The front reads all words of its command line, and refuses wrong ones, before it starts anything.
 // lrup-engines gets the same words, and checks values that only it uses. It also gets a line for
 // each child that has ended, and one for a signal. It sends blocks of BLOCK bytes, each a line that
 // is padded with zeros:
 //
-//     check STREAMS LINES ROOM TRIES PID FILE    start lrupd, if there is none; the streams are in
-//                                                the folder that process PID has open as FILE
+//     check STREAMS LINES ROOM TRIES PID FILE    start lrupd; the streams are in the folder that
+//                                                process PID has open as FILE
 //     v SIGNS      + or - for each of the next variables
 //     model        the assignment is whole
 //     c WORDS      a comment
@@ -77,8 +77,7 @@ static struct child {
     const char *name;
     int handle;         // -1: it isn't running
     int output;         // in memory, so that a full disk can't prevent an answer
-    off_t begins;       // in `output`, after the lines of an lrupd that a signal has ended
-    pid_t pid;          // 0: it hasn't been started, or not since a signal ended it
+    pid_t pid;          // 0: it hasn't been started
     siginfo_t end;
 } children[CHILDREN] = { { .name = "supervisor", .handle = -1 }, { .name = "probe", .handle = -1 },
                          { .name = "lrupd", .handle = -1 } };
@@ -371,8 +370,6 @@ static void start_lrupd(enum which which, const struct request *request) {
     if (which == PROBE) words[count++] = "/dev/null";
     for (unsigned long k = 1; k <= request->streams; k++)
         words[count++] = text("%s/round-1.stream-%lu", folder, k);
-    children[which].begins = lseek(children[which].output, 0, SEEK_END);
-    if (children[which].begins < 0) err(1, "cannot find the end of lrupd's output");
     start(which, words, dev_null, children[which].output, children[which].output);
 }
 
@@ -388,7 +385,8 @@ static bool read_number(const char **line, unsigned long least, unsigned long mo
     return errno == 0 && least <= *number && *number <= most;
 }
 
-// Only numbers within their ranges reach lrupd's command line. Any other request ends the run.
+// Only numbers within their ranges reach lrupd's command line. Any other request, or a second one,
+// ends the run.
 static void handle_request(const char *words) {
     struct request request;
     bool is_right = read_number(&words, 1, MOST_STREAMS, &request.streams) &&
@@ -440,7 +438,6 @@ static void set_verdict(int status, const char *line) {
     if (pread(children[LRUPD].output, bytes, length, at) < 0) return;
     if (!exited_with(LRUPD, status)) return;                // trusted (exit)
     if (strcmp(bytes, text("%s\n", line)) != 0) return;     // trusted (last line): lrupd's own
-    if (at < children[LRUPD].begins) return;                // trusted (own line): no killed lrupd's
     assert(verdict == NULL);
     verdict = line;
 }
@@ -461,8 +458,7 @@ static void collect_end(enum which which) {
     if (which == LRUPD && assume != NULL)
         set_verdict(UNDER_ASSUMPTIONS, "s UNSATISFIABLE UNDER ASSUMPTIONS");
     if (which == PROBE && !exited_with(PROBE, UNKNOWN)) stop_solving_within(GRACE);
-    if (which == LRUPD && child->end.si_code != CLD_EXITED) child->pid = 0;     // may start again
-    else if (which == LRUPD) stop_solving_within(GRACE);
+    if (which == LRUPD) stop_solving_within(GRACE);
     dprintf(to_engines[1], "%s %d %d\n", child->name, child->end.si_code, child->end.si_status);
 }
 
