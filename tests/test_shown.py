@@ -11,10 +11,10 @@ import re
 import shutil
 import subprocess
 from pathlib import Path
-from typing import Iterator, List, NamedTuple, Sequence, Tuple
+from typing import Iterator, List, Mapping, NamedTuple, Sequence, Tuple
 
 from harness import (EXAMPLES, EXPLAIN, FILTER, LRUP_CHAIN, ROOT, TRIM, Row, generated, lacking,
-                     needs, parametrized, run, want)
+                     needs, parametrized, run, want, written)
 from solving import LRUP_SOLVE, PROGRAM, SOLVE
 
 LIMIT = 120  # seconds for a page
@@ -137,36 +137,149 @@ def refused(script: str, words: Sequence[str], given: bytes, said: str, status: 
     want((done.out, done.err, done.status), ("", f"{said}\n", status), f"the message on {words}")
 
 
-def wrong_answers(script: str, words: Sequence[str], what: str) -> Iterator[Row]:
-    """The scripts refuse these answers to a satisfiable question; one answer is too short for its
-    formula."""
+# Answers that aren't ones to a satisfiable formula; one is too short for its formula, and one has
+# both values of each variable.
+NO_ANSWERS = (b"s UNSATISFIABLE\n", b"", b"c time is up\ns UNKNOWN\n", b"\0garbage\n\377",
+              b"s SATISFIABLE\nv 1 2 0\n", b"s UNKNOWN\nv 1 2 -3 -4 -5 6 -7 0\n",
+              b"s SATISFIABLE\nv 1 -1 2 -2 3 -3 4 -4 5 -5 6 -6 7 -7 0\n")
+
+
+def not_shown(text: str, given: bytes, said: str, work: Path) -> None:
+    """show.awk refuses this formula or answer."""
+    formula = written(text, work)
+    refused("show.awk", [str(formula), "-"], given, f"show.awk: {said}", 1, work)
+
+
+def refused_with_files(script: str, words: Sequence[str], files: Mapping[str, str], said: str,
+                       work: Path) -> None:
+    for name, text in files.items():
+        written(text, work, name)
+    refused(script, words, b"", said, 1, work)
+
+
+# Problems that smt2cnf.py refuses, and why: Z3's bit-blaster would leave something out.
+WORD, TRUTH = "(declare-const x (_ BitVec 8))", "(declare-const p Bool)"
+SMT = [
+    (f"{TRUTH}(push)(assert p)(check-sat)", "'push' isn't supported"),
+    (f"{TRUTH}(; a comment\npush 1)(assert p)(pop 1)", "'push' isn't supported"),
+    (f"{TRUTH}(check-sat-assuming (p))", "'check-sat-assuming' isn't supported"),
+    (f"{TRUTH}(assert p)(check-sat)(assert (not p))(check-sat)",
+     "'assert' isn't supported after check-sat"),
+    (f"{TRUTH}(assert p)(check-sat)(check-sat)", "'check-sat' isn't supported after check-sat"),
+    (f"{TRUTH}(assert p)(|check-sat|)(reset)(|push| 1)", "'|check-sat|' isn't supported"),
+    ("(declare-const n Int)(assert (and (> n 3) (< n 2)))(check-sat)",
+     "Int isn't supported, only Bool and BitVec"),
+    (f"{WORD}(assert (= (bv2int x) 3))(check-sat)", "Int isn't supported, only Bool and BitVec"),
+    (f"{TRUTH}(declare-fun f (Bool) Bool)(assert (distinct (f p) (f p)))(check-sat)",
+     "the function f isn't defined"),
+    (f"{WORD}(declare-fun f ((_ BitVec 8)) (_ BitVec 8))(assert (distinct (f x) (f x)))",
+     "the function f isn't defined"),
+    ("(declare-const m (Array Bool Bool))(assert (distinct (select m true) (select m true)))",
+     "Array(Bool, Bool) isn't supported, only Bool and BitVec"),
+    ("(declare-sort S 0)(declare-const a S)(assert (distinct a a))",
+     "'declare-sort' isn't supported"),
+    ("(assert (exists ((y (_ BitVec 4))) (bvult y #x1)))", "quantifiers aren't supported"),
+    (f"{TRUTH}(declare-const q Bool)(assert ((_ at-most 1) p q))(check-sat)",
+     "not a problem of QF_BV"),
+    ("(assert nothing)",
+     '(error "line 1 column 9: unknown constant nothing")'),
+]
+
+
+def smt_problems() -> Iterator[Row]:
+    script = "smt/smt2cnf.py"
+    for text, said in SMT:
+        yield (f"smt2cnf.py, {text}", refused_with_files, script, ["p.smt2"], {"p.smt2": text},
+               f"smt2cnf.py: p.smt2: {said}")
+    for words in ([], ["one", "two"]):
+        yield (f"smt2cnf.py {words}", refused, script, words, b"",
+               "usage: smt2cnf.py PROBLEM.smt2 > FORMULA.cnf", 2)
+    yield ("smt2cnf.py none", refused, script, ["none"], b"",
+           "smt2cnf.py: none: [Errno 2] No such file or directory: 'none'", 1)
+    for text, lines in ((f"{WORD}(assert (= (bvadd x #x01) x))", ["p cnf 1 2", "1 0", "-1 0"]),
+                        (f"{TRUTH}(assert false)", ["p cnf 1 2", "1 0", "-1 0"]),
+                        (f"{TRUTH}(assert (not p))", ["p cnf 1 1", "c p 1", "-1 0"])):
+        yield f"smt2cnf.py, {text}", formula_of, text, lines
+
+
+def formula_of(text: str, lines: Sequence[str], work: Path) -> None:
+    """smt2cnf.py writes these lines."""
+    done = run([EXAMPLES / "smt" / "smt2cnf.py", written(text, work)])
+    want((done.out.splitlines(), done.err, done.status), (lines, "", 0), "the formula")
+
+
+def refused_answers(script: str, words: Sequence[str], what: str) -> Iterator[Row]:
+    """The script refuses these answers to a satisfiable question."""
     name, cause = (Path(script).name,
                    "the answer isn't s SATISFIABLE with an assignment of this formula")
-    for given in (b"s UNSATISFIABLE\n", b"", b"c time is up\ns UNKNOWN\n", b"\0garbage\n\377",
-                  b"s SATISFIABLE\nv 1 2 0\n"):
+    for given in NO_ANSWERS:
         yield (f"{name}, {given!r}", refused, script, ["--show", *words], given,
                f"{name}: no {what}: {cause}", 1)
+
+
+# Lemmas that lemma.py refuses, for eight bits. The first ones would do something else as Python.
+LEMMAS = [(text, f"a LEMMA can't have {refused}: the top of lemma.py says what it can have")
+          for text, refused in (
+              ('__import__("os").system("touch ran")', "__import__('os').system('touch ran')"),
+              ('both(a < b, open("ran", "w"))', "open('ran', 'w')"),
+              ("a.__class__ == b", "a.__class__"),
+              ("(lambda: a < b)()", "(lambda: a < b)()"), ("[a < b][0]", "[a < b][0]"),
+              ("a <= e", "e"), ("a <= b <= c", "a <= b <= c"), ("a != b", "a != b"),
+              ("a < b and b < c", "a < b and b < c"), ("not a < b", "not a < b"),
+              ("a * b == c", "a * b"), ("a > b", "a > b"), ("-a == b", "-a"), ("a == 1.0", "1.0"),
+              ("a == True", "True"), ("when(a < b)", "when(a < b)"), ("both(*a)", "both(*a)"))]
+LEMMAS += [
+    ("a == 256", "256 has more than 8 bits"),
+    ("a + b", "'a + b' is a number, which has no counterexample"),
+    ("a + (b < c) == d", "a + (b < c) isn't of two numbers"),
+    ("when(a, b < c)", "when(a, b < c) isn't of two truth values"),
+    ("a & (b < c) == d", "a & (b < c) isn't of two numbers or two truth values"),
+    ("a << b == c", "a << b isn't a number that is shifted by a constant"),
+    ("(a < b) << 1 == c", "(a < b) << 1 isn't a number that is shifted by a constant"),
+    ("a <", "LEMMA isn't an expression: invalid syntax"),
+    ("~" * 5000 + "a == b", "LEMMA is nested too deeply")]
+
+
+REGISTER = """module NAME(input clock, input reset, input in, output reg last);
+  always @(posedge clock) last <= reset ? 0 : in;
+endmodule
+"""
+
+
+def circuits() -> Iterator[Row]:
+    """Circuits that the scripts refuse."""
+    def row(script: str, words: Sequence[str], text: str, said: str) -> Row:
+        return (f"{script}, {said}", refused_with_files, script, words, {"x.v": text},
+                f"aiger2cnf.awk: {said}")
+    checked = ["x.v", "5", "f"]
+    yield row("fifo/bmc.sh", checked, REGISTER, "the circuit has no output bad")
+    yield row("fifo/bmc.sh", checked, REGISTER.replace("last", "bad").replace("reset", "clear"),
+              "the circuit has no input reset")
+    yield row("miter/miter.sh", ["x.v", "f"],
+              REGISTER.replace("NAME", "one") + REGISTER.replace("NAME", "other"),
+              "a circuit with registers, which bmc.sh is for")
 
 
 def scripts() -> Iterator[Row]:
     lemma, plan = "lemma/lemma.py", "planning/plan.py"
     domain, problem = (str(EXAMPLES / "planning" / name)
                        for name in ("gripper.pddl", "four-balls.pddl"))
-    yield from wrong_answers(lemma, ["8", "a <= b"], "counterexample")
-    yield from wrong_answers(plan, [domain, problem, "11"], "plan")
-    for words in ([], ["--show"], ["8"], ["0", "a <= b"], ["x", "a <= b"], ["8", "a <= b", "c"]):
-        yield (f"lemma.py {words}", refused, lemma, words, b"",
-               "usage: lemma.py [--show] WIDTH LEMMA", 2)
-    for said, cause in (("a <= e", "name 'e' is not defined"),
-                        ("a <= b <= c",
-                         "a LEMMA has no 'and', 'or', 'not', '!=', and no chain a < b < c")):
-        yield (f"lemma.py {said}", refused, lemma, ["8", said], b"",
-               f"lemma.py: LEMMA or answer can't be read: {cause}", 1)
-    for given in (b"s UNKNOWN\nv 1 2 -3 -4 -5 6 -7 0\n",
-                  b"s SATISFIABLE\nv 1 -1 2 -2 3 -3 4 -4 5 -5 6 -6 7 -7 0\n"):
-        yield (f"lemma.py, {given!r}", refused, lemma, ["--show", "1", "a <= b"], given,
-               "lemma.py: no counterexample: the answer isn't s SATISFIABLE with an assignment of "
-               "this formula", 1)
+    yield from refused_answers(plan, [domain, problem, "11"], "plan")
+    for words in ([], ["8"], ["0", "a <= b"], ["x", "a <= b"], ["8", "a <= b", "c"]):
+        yield (f"lemma.py {words}", refused, lemma, words, b"", "usage: lemma.py WIDTH LEMMA", 2)
+    for text, cause in LEMMAS:
+        yield (f"lemma.py {text[:40]}", refused_with_files, lemma, ["8", text], {},
+               f"lemma.py: {cause}")
+    yield from smt_problems()
+    for given in NO_ANSWERS:
+        yield (f"show.awk, {given!r}", not_shown, "p cnf 7 2\nc a[0] 1\n3 -4 0\n5 -1 0\n", given,
+               "the answer isn't s SATISFIABLE with an assignment of this formula")
+    for text in ("p cnf 2 1\n1 2 0\n", "c generated from Yosys RTL\np cnf 2 1\n1 2 0\n", ""):
+        yield (f"show.awk, {text!r}", not_shown, text, b"s SATISFIABLE\nv 1 2 0\n",
+               "the formula has no comments 'c NAME LITERAL'")
+    for words in ([], ["formula.cnf"], ["formula.cnf", "answer", "more"]):
+        yield (f"show.awk {words}", refused, "show.awk", words, b"",
+               "usage: show.awk FORMULA ANSWER|CORE", 2)
     for words in ([], ["--stobj", "f"], ["f"], ["f", "p", "x"]):
         yield (f"acl2.py {words}", refused, "acl2.py", words, b"",
                "usage: acl2.py [--stobj] FORMULA PROOF", 2)
@@ -178,12 +291,12 @@ def scripts() -> Iterator[Row]:
         yield (f"miter.sh {words}", refused, "miter/miter.sh", words, b"",
                "usage: miter.sh FILE.v FORMULA", 2)
     for words in ([], ["x.v", "5"], ["x.v", "x", "f"], ["x.v", "", "f"], ["x.v", "0", "f"],
-                  ["x.v", "5", "f", "g"], ["x.v", "-5", "f"]):
+                  ["x.v", "5", "f", "g"], ["x.v", "-5", "f"], ["x.v", "1", "f"],
+                  ["--induction", "x.v", "5"], ["--induction", "x.v", "1", "f"]):
         yield (f"bmc.sh {words}", refused, "fifo/bmc.sh", words, b"",
-               "usage: bmc.sh FILE.v DEPTH FORMULA, with a number of steps for DEPTH", 2)
-    for given in (b"s UNSATISFIABLE\n", b""):
-        yield (f"show.awk, {given!r}", refused, "miter/show.awk", [str(EXAMPLES / "bmc.cnf"), "-"],
-               given, "show.awk: the answer has no assignment", 1)
+               "usage: bmc.sh [--induction] FILE.v DEPTH FORMULA, with 2 or more steps for DEPTH",
+               2)
+    yield from circuits()
     for words in ([], ["3", "3"], ["3", "1", "9"], ["3", "x", "9"]):
         yield (f"waerden.py {words}", refused, "cubes/waerden.py", words, b"",
                "usage: waerden.py K L N, with 2 or more for K and L", 2)
