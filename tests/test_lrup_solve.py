@@ -238,11 +238,11 @@ def randomly_cubed(seed: int, work: Path) -> None:
 
 
 def killed_with_a_cube(name: str, work: Path) -> None:
-    """Another engine takes the cube of a killed one, and there is an answer."""
-    formula, hooks = generated("pigeons 9", work), {"SLICE": 200}
-    with subprocess.Popen(command(["-v", "-j", "4", formula], hooks), env=in_environment(hooks),
-                          text=True, start_new_session=True, stdout=subprocess.PIPE,
-                          stderr=subprocess.PIPE) as process:
+    """Another engine takes the cube of a killed one, and there is an answer. Slices are long, so
+    the engine is killed before it has refuted its cube."""
+    formula = generated("pigeons 8", work)
+    with subprocess.Popen(command(["-v", "-j", "4", formula]), text=True, start_new_session=True,
+                          stdout=subprocess.PIPE, stderr=subprocess.PIPE) as process:
         try:
             assert process.stdout
             before = ""

@@ -7,7 +7,6 @@ import itertools
 import random
 import re
 import subprocess
-import time
 from pathlib import Path
 from typing import Iterable, List, Mapping, Optional, Sequence
 
@@ -98,15 +97,15 @@ def randomly(seed: int, work: Path) -> None:
 
 
 def killed(name: str, engines: int, options: List[str], work: Path) -> None:
-    """Another engine gets the cube of a lost one."""
-    formula = generated("pigeons 9", work)
-    file = written(cube_lines(covering([1, 10, 19])), work, "cubes")
+    """Another engine gets the cube of a lost one, which has had its first cube since before it was
+    started."""
+    formula = generated("pigeons 8", work)
+    file = written(cube_lines(covering([1, 9, 17])), work, "cubes")
     words = command(["-v", "-j", engines, "--cubes", file, *options, formula])
     with subprocess.Popen(words, text=True, start_new_session=True, stdout=subprocess.PIPE,
                           stderr=subprocess.PIPE) as process:
         try:
             until(f"{name} is there", lambda: name in children_of(process.pid))
-            time.sleep(0.3)
             kill_children(children_of(process.pid), [name])
             out, said = process.communicate(timeout=LIMIT)
         finally:
