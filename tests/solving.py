@@ -262,8 +262,9 @@ def built(target: str, for_tests: bool) -> None:
             if is_built(folder / "bin" / ("lrup-engines" if target == "solve"
                                           else "lrup-engines-mpi")):
                 continue
-            out, err, status = run(["make", "-s", "-C", ROOT, target, f"OUT={folder}",
-                                    f"CFLAGS={flags}", f"CXXFLAGS={flags}"], limit=600)
+            out, err, status = run(["make", "-s", f"-j{os.cpu_count()}", "-C", ROOT, target,
+                                    f"OUT={folder}", f"CFLAGS={flags}", f"CXXFLAGS={flags}"],
+                                   limit=600)
             if status and re.search("libcadical-dev|libmd-dev|libopenmpi-dev", out + err):
                 lacking(f"all of lrup-{target}: {(out + err).splitlines()[0]}")
             assert not status and not re.search(r"warning: .*\[-W", err), out + err
