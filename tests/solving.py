@@ -12,7 +12,7 @@ import stat
 import subprocess
 import time
 from pathlib import Path
-from typing import Any, Dict, List, Mapping, Optional, Sequence, Tuple
+from typing import Any, Callable, Dict, List, Mapping, Optional, Sequence, Tuple
 
 import pytest
 
@@ -118,6 +118,27 @@ def check_again(kept: Path, env_more: Optional[Mapping[str, str]] = None) -> Non
 def listed(kept: Path) -> List[str]:
     """The files of a record, from its list."""
     return sorted(set((kept / "files").read_text().splitlines()))
+
+
+def rests_on(rule: str, found: str, most: int, formula: Callable[[int], Path],
+             tested: Callable[[int], Mapping[str, object]]) -> None:
+    """Without this rule of sharing, some run breaks, which depends on timing: up to `most` formulas
+    are tried. With all rules, neither a run on that formula breaks, nor one on the first twelve.
+    Without the rule, a stream waits a second, not a minute, for a clause that never comes."""
+    def answer(seed: int, more: Mapping[str, object]) -> Answer:
+        return solve(["-v", "--memory", "64M", "--time", "40", "-j", "3", formula(seed)],
+                     tested={**tested(seed), **more})
+
+    def has_broken(answer: Answer) -> bool:
+        return any(re.search(found, line) for line in answer.comments)
+
+    without = {"WITHOUT": rule, "TRIES": 20000}
+    broken = next((seed for seed in range(most) if has_broken(answer(seed, without))), None)
+    assert broken is not None, f"none of {most} runs broke without the rule"
+    for seed in sorted({*range(12), broken}):
+        whole = answer(seed, {})
+        want(has_broken(whole), False, f"whether it breaks with all rules\n{whole.out[-2000:]}")
+        want_answer(whole, whole.status if whole.status in (10, 20) else 20, formula(seed))
 
 
 def in_place_of_lrupd(body: str, work: Path) -> Path:

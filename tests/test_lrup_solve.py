@@ -27,7 +27,8 @@ from harness import (EXAMPLES, FOUR, LIMIT, ROOT, Ran, Row, dimacs, example, gen
 from proof_forms import read_formula
 from solving import (ANSWERS, EARLY, ELIMINATING, FOR_TESTS, PROGRAM, SOLVE, Answer, check_again,
                      children_of, command, end_group, goes_on, in_environment, in_place_of_lrupd,
-                     is_alive, kill_children, of_process, random_formula, solve, want_answer)
+                     is_alive, kill_children, of_process, random_formula, rests_on, solve,
+                     want_answer)
 
 MITERS = EXAMPLES / "miter"
 TRIES = 10      # runs, since a run may end before the test intervenes
@@ -528,53 +529,23 @@ def options_listed(work: Path) -> None:
          "options of the manual page")
 
 
-# Rules of sharing: if a rule is left out, some run breaks; with all rules, no run does.
+# Rules of sharing.
 
 
-def rests_on(what: str, count: int, found: str, variables: Tuple[int, int], early: str,
-             work: Path) -> None:
-    """Runs `count` formulas with the rule and without it, and more if no run without it broke,
-    which depends on timing. Without the rule, a stream waits a second, not a minute, for a clause
-    that never comes."""
-    seen = {True: 0, False: 0}
-    for seed in range(10 * count):
+def shares(rule: str, found: str, variables: Tuple[int, int], early: str, work: Path) -> None:
+    def formula(seed: int) -> Path:
         numbers = random.Random(seed)
         size = numbers.randrange(*variables)
-        formula = written(dimacs(size, random_clauses(numbers, size,
-                                                      round(numbers.uniform(4, 4.9) * size))), work)
-        for left_out in (True, False):
-            tested: Dict[str, object] = {"SET": early, "SLICE": 30,
-                                         **({"WITHOUT": what, "TRIES": 20000} if left_out else {})}
-            answer = solve(
-                ["-v", "--memory", "64M", "--time", "20", "-j", "3", formula], tested=tested)
-            seen[left_out] += any(re.search(found, line) for line in answer.comments)
-            # Short slices hardly ever finish.
-            if not left_out and "time is up" not in answer.comments:
-                want_answer(answer, answer.status if answer.status in (10, 20) else 20, formula)
-        if seen[True] and seed > 10 or seen[False]:
-            break
-    want((seen[True] > 0, seen[False]), (True, 0),
-         f"runs that broke without it, and with it: {seen}")
+        return written(dimacs(size, random_clauses(numbers, size,
+                                                   round(numbers.uniform(4, 4.9) * size))), work)
+    rests_on(rule, found, 300, formula, lambda _: {"SET": early, "SLICE": 30})
 
 
 def published_late(work: Path) -> None:
     """The filter of engine 1 dies after giving away a clause that is still in its buffer: nobody
     may have seen that clause."""
-    broke = 0
-    for seed in range(120):
-        formula = generated(f"random 150 {seed}", work)
-        for left_out in (True, False):
-            tested: Dict[str, object] = {"SLICE": 30, "LAST_GIFT": 40 + 7 * seed}
-            tested.update({"WITHOUT": "flush", "TRIES": 20000} if left_out else {})
-            answer = solve(
-                ["-v", "--memory", "64M", "--time", "20", "-j", "3", formula], tested=tested)
-            if left_out:
-                broke += any("missing" in line for line in answer.comments)
-            elif "time is up" not in answer.comments:
-                want_answer(answer, answer.status if answer.status in (10, 20) else 20, formula)
-        if broke and seed > 10:
-            return
-    raise AssertionError("clauses that never went out weren't missed")
+    rests_on("flush", "missing", 120, lambda seed: generated(f"random 70 {seed}", work),
+             lambda seed: {"SLICE": 30, "LAST_GIFT": 20 + seed % 40})
 
 
 # The tests.
@@ -673,10 +644,9 @@ def searches() -> List[Row]:
 
 def sharing() -> List[Row]:
     lost = r"is lost: .*no conflict by unit propagation"
-    return [("witnesses", rests_on, "guard", 30, lost, (140, 200), ELIMINATING),
-            ("imports first", rests_on, "order", 30, r"is lost: its filter stopped: ",
-             (60, 140), EARLY),
-            ("kept clauses", rests_on, "keeping", 30, r"bad line \d+ \(retired ", (60, 140), EARLY),
+    return [("witnesses", shares, "guard", lost, (110, 160), ELIMINATING),
+            ("imports first", shares, "order", r"is lost: its filter stopped: ", (60, 140), EARLY),
+            ("kept clauses", shares, "keeping", r"bad line \d+ \(retired ", (60, 140), EARLY),
             ("published late", published_late)]
 
 

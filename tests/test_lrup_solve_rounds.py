@@ -21,7 +21,7 @@ from harness import (LIMIT, LRUP_CHAIN, Ran, Row, dimacs, example, generated, pa
                      random_clauses, run, until, want, written)
 from solving import (EARLY, FOR_TESTS, PROGRAM, Answer, check_again, children_of, command,
                      end_group, in_environment, in_place_of_lrupd, is_alive, kill_children,
-                     of_process, random_formula, sleep, solve, want_answer)
+                     of_process, random_formula, rests_on, sleep, solve, want_answer)
 
 SMALL = {"SAME_WORDS": 1, "SLICE": 40}      # rows that don't grow
 TRIES = 10
@@ -506,24 +506,13 @@ def stays_small(work: Path) -> None:
              f"kilobytes of {name}, {before[name]} and then {size}")
 
 
-# Rules of sharing between rounds: if a rule is left out, some run breaks; with all rules, no run
-# does.
+# Rules of sharing between rounds.
 
 
-def rests_on(what: str, found: str, tested: Mapping[str, object], work: Path) -> None:
-    seen = {True: 0, False: 0}
-    for seed in range(100):
-        formula = generated(f"random {random.Random(seed).randrange(120, 180)} {seed}", work)
-        for left_out in (True, False):
-            words = {**SMALL, **tested, **({"WITHOUT": what, "TRIES": 20000} if left_out else {})}
-            answer = solve(["-v", "--time", "20", "-j", "3", formula], tested=words)
-            seen[left_out] += any(re.search(found, line) for line in answer.comments)
-            if not left_out and "time is up" not in answer.comments:
-                want_answer(answer, answer.status if answer.status in (10, 20) else 20, formula)
-        if seen[True] and seed > 5 or seen[False]:
-            break
-    want((seen[True] > 0, seen[False]), (True, 0),
-         f"runs that broke without it, and with it: {seen}")
+def shares(rule: str, found: str, tested: Mapping[str, object], work: Path) -> None:
+    def formula(seed: int) -> Path:
+        return generated(f"random {random.Random(seed).randrange(90, 140)} {seed}", work)
+    rests_on(rule, found, 100, formula, lambda _: {**SMALL, **tested})
 
 
 # The tests.
@@ -592,8 +581,8 @@ def what_happens() -> List[Row]:
 
 def sharing() -> List[Row]:
     small = {"FIRST_WORDS": 20000, "SLICE": 30}
-    return [("identities of gifts", rests_on, "renewal", r"bad line|hasn't accepted", small),
-            ("floors of gifts", rests_on, "floor", r"bad line|hasn't accepted|hasn't saved",
+    return [("identities of gifts", shares, "renewal", r"bad line|hasn't accepted", small),
+            ("floors of gifts", shares, "floor", r"bad line|hasn't accepted|hasn't saved",
              {**small, "OUTBOX": 200})]
 
 
