@@ -524,7 +524,7 @@ def known() -> List[Row]:
                     ["-j", "4", "--no-share"]):
         title = " ".join(["", *options])
         rows += [("bmc" + title, in_rounds, "bmc.cnf", 1500 * int(options[1]), 200, options, 20),
-                 ("pigeonholes" + title, in_rounds, "pigeons 8", 20000 * int(options[1]), 300,
+                 ("pigeonholes" + title, in_rounds, "pigeons 7", 3000 * int(options[1]), 300,
                   options, 20),
                  ("random" + title, in_rounds, "random 170 4", 12000 * int(options[1]), 300,
                   options, 20),
@@ -536,7 +536,7 @@ def known() -> List[Row]:
                    ("a row without room for one clause", one_clause),
                    ("doubled literals", doubled_literals),
                    *((f"rows of {memory}, {words}, {engines}", small_rows, memory, words, engines)
-                     for memory, words, engines in (("4M", "pigeons 9", 2), ("12K", "pigeons 8", 1),
+                     for memory, words, engines in (("1M", "pigeons 8", 2), ("12K", "pigeons 8", 1),
                                                     ("20K", "pigeons 8", 3))),
                    *((f"{engines} engines go {options}", engines_go, engines, options)
                      for engines, options in ((2, []), (4, []), (4, ["--no-share"]))),
