@@ -20,6 +20,8 @@ EXPLAIN := $(BIN)/lrup-explain
 SOLVE := $(BIN)/lrup-solve
 ENGINES := $(BIN)/lrup-engines
 SOLVER := $(BIN)/example-solver
+SOLVE_IF_POSSIBLE := $(if $(shell $(CXX) -E -x c++ -include cadical.hpp /dev/null \
+	> /dev/null 2>&1 && echo yes),solve,no-solve)
 # For users to set, like CPPFLAGS, LDFLAGS and LDLIBS; flags that the sources need are in the rules.
 CFLAGS ?= -O2
 CXXFLAGS ?= -O2
@@ -93,7 +95,7 @@ built:
 	@test -x $(PROGRAM) || \
 	{ echo "$(PROGRAM) isn't built: 'make build' builds it with the command '$(RT)'"; exit 1; }
 
-install-solve: $(if $(shell $(CXX) -E -x c++ -include cadical.hpp /dev/null > /dev/null 2>&1 && echo yes),solve,no-solve)
+install-solve: $(SOLVE_IF_POSSIBLE)
 	@test ! -x $(SOLVE) || { \
 	install -d "$(PLACE)/bin" "$(PLACE)/libexec/lrupd" "$(PLACE)/share/man/man1" && \
 	install -m 755 $(SOLVE) "$(PLACE)/bin/lrup-solve" && \
@@ -102,7 +104,7 @@ install-solve: $(if $(shell $(CXX) -E -x c++ -include cadical.hpp /dev/null > /d
 	install -m 644 docs/lrup-solve.1 docs/lrup-check.1 "$(PLACE)/share/man/man1"; }
 
 no-solve:
-	@echo "lrup-solve isn't installed: it needs CaDiCaL as a library, in Debian the package libcadical-dev"
+	@echo "lrup-solve isn't built: it needs CaDiCaL as a library, in Debian the package libcadical-dev"
 
 uninstall: ## use: remove what make install installs below PREFIX
 	rm -f $(foreach name,lrupd lrup-chain lrup-exact lrup-trim lrup-explain lrup-solve lrup-check,\
@@ -139,8 +141,8 @@ solve: $(SOLVE) $(ENGINES) $(EXACT) $(TRIM) $(EXPLAIN) scripts ## build: lrup-so
 solve-mpi: $(ENGINES)-mpi solve ## build: lrup-engines-mpi, for lrup-solve --mpi on several hosts; needs MPI, too
 	@:
 
-# What the tests of programs run, besides lrup-solve, which they build by themselves.
-tools: exact trim explain solver scripts
+# What the tests of programs run.
+tools: exact trim explain solver scripts $(SOLVE_IF_POSSIBLE)
 
 scripts: $(BIN)/lrup-check $(BIN)/lrup-chain
 $(BIN)/lrup-check: tools/solve/lrup-check

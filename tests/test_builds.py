@@ -167,7 +167,7 @@ def installed(work: Path) -> None:
     pages = work / "a place" / "usr/share/doc/lrupd"
     files = {str(path.relative_to(work / "a place")) for path in (work / "a place").rglob("*")
              if path.is_file() and pages not in path.parents}
-    solving = {"lrup-solve", "lrup-check"} if "isn't installed" not in done.out else set()
+    solving = {"lrup-solve", "lrup-check"} if "isn't built" not in done.out else set()
     names = {"lrupd", "lrup-chain", "lrup-exact", "lrup-trim", "lrup-explain"} | solving
     wanted = {f"usr/{place.format(name)}" for name in names for place in
               ("bin/{}", "share/man/man1/{}.1", "share/bash-completion/completions/{}")}
