@@ -51,7 +51,7 @@ def killed_one(name: str, after: float, formula: Path, hooks: Mapping[str, objec
 
 def kills(seed: int, work: Path) -> None:
     numbers = random.Random(f"{seed} kills")
-    size = numbers.randrange(120, 220)
+    size = numbers.randrange(100, 150)
     formula = written(
         dimacs(size, random_clauses(numbers, size, round(numbers.uniform(4, 4.6) * size))), work)
     hooks = {"SET": EARLY, "SLICE": numbers.choice((20, 50, 200)),
@@ -61,7 +61,8 @@ def kills(seed: int, work: Path) -> None:
     lasts = time.monotonic() - begun
     want_answer(whole, whole.status if whole.status in (10, 20) else 20, formula)
     for name in NAMES:
-        after = numbers.uniform(0, lasts) if name != READING else 0        # reading is brief
+        # Most processes start some time after their run, and reading is brief.
+        after = numbers.uniform(0, 0.8 * lasts) if name != READING else 0
         answer = killed_one(name, after, formula, hooks, work)
         answer.said = ""        # has a message about the killed process
         if answer.status == -signal.SIGKILL:
