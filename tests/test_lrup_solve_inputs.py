@@ -438,7 +438,8 @@ def taken_by_all(text: Text, status: int, work: Path) -> None:
     stream, said, ended = run([FILTER, "--format", "drat", formula], "0\n" if status == 20 else "")
     want((stream.count("\n"), said, ended), (int(status == 20), "", 0), "the filter's messages")
     wanted, verdict = (0, "s UNSATISFIABLE") if status == 20 else (3, "s UNKNOWN")
-    done = run([PROGRAM, formula, written(stream, work, "stream")])
+    done = run([PROGRAM, "--lines", "1000", "--room", "10000", formula,
+                written(stream, work, "stream")])
     want((done.out.splitlines()[-1:], done.err, done.status), ([verdict], "", wanted),
          "lrupd's answer")
     want_answer(solve([formula]), status, formula)
