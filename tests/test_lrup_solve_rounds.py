@@ -536,7 +536,7 @@ def known() -> List[Row]:
                    ("a row without room for one clause", one_clause),
                    ("doubled literals", doubled_literals),
                    *((f"rows of {memory}, {words}, {engines}", small_rows, memory, words, engines)
-                     for memory, words, engines in (("1M", "pigeons 8", 2), ("12K", "pigeons 8", 1),
+                     for memory, words, engines in (("1M", "pigeons 8", 3), ("12K", "pigeons 8", 1),
                                                     ("20K", "pigeons 8", 3))),
                    *((f"{engines} engines go {options}", engines_go, engines, options)
                      for engines, options in ((2, []), (4, []), (4, ["--no-share"]))),
