@@ -332,7 +332,7 @@ def packed(forms: Sequence[str], tested: Optional[Dict[str, object]], work: Path
         needs(PACKERS[form])
     files, mark = work / "temporary", marked(work)
     files.mkdir()
-    formula = generated("random 180 3", work)
+    formula = generated("random 150 3", work)
     want(solve(["-j", 2, "--proofs", "d", formula], tested=tested, cwd=work).status,
          20, "the status")
     streams = sorted((work / "d").glob("round-*.stream-*"))
@@ -759,7 +759,7 @@ def rows() -> List[Row]:
               for tool in ("sha256sum", "shasum", "openssl", "")]
     found += [
         (f"packed, {' and '.join(forms)}{', rounds' if tested else ''}", packed, forms, tested)
-        for forms in (["xz"], ["gz"], ["zst"], ["xz", "gz", "zst"]) for tested in (None, SMALL)]
+        for forms in (["xz"], ["gz"], ["zst"], ["xz", "gz", "zst"]) for tested in (None, ROUNDS)]
     found += [(f"packed, with {closing}", packed_and_closed, closing)
               for closing in ("<&-", "<&- 2>&-")]
     found += [(f"packed, and gets {number.name}", packed_and_interrupted, number)
