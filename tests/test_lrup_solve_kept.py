@@ -136,14 +136,15 @@ def programs_beside(tools: Dict[str, str], work: Path) -> Path:
 
 
 def with_another(tools: Dict[str, str], said: str, work: Path) -> None:
-    """The answer is still lrupd's; an output that lrupd refuses isn't kept, and the status is 1."""
+    """The answer and its status are still lrupd's; an output that lrupd refuses isn't kept, and
+    standard error says so."""
     program, formula = programs_beside(tools, work), written(FOUR, work)
     done = run([program, "--lrupd", PROGRAM, "-j", 1, "--core", "core", "--lrat", "lrat", formula],
                cwd=work, env={**os.environ, "PATH": "/usr/bin:/bin"})
-    want((done.err.splitlines()[-1], done.status), (f"lrup-solve: {said}", 1),
+    is_solved = "no lrup-trim" not in said
+    want((done.err.splitlines()[-1], done.status), (f"lrup-solve: {said}", 20 if is_solved else 1),
          f"the message, besides\n{done.out}")
-    want(("s UNSATISFIABLE" in done.out.splitlines()), "no lrup-trim" not in said,
-         "whether the verdict is printed")
+    want(("s UNSATISFIABLE" in done.out.splitlines()), is_solved, "whether the verdict is printed")
     want([(work / name).exists() for name in ("core", "lrat")], [False, False], "the outputs")
 
 
@@ -674,9 +675,9 @@ def on_a_disk(kilobytes: int, words: List[object], tested: Optional[Dict[str, ob
 
 def on_a_full_disk(kilobytes: int, words: List[object], tested: Optional[Dict[str, object]],
                    said: str, work: Path) -> None:
-    """The record is lost, and that is reported; the verdict isn't lost."""
+    """The record is lost, and that is reported; neither the verdict nor its status is lost."""
     answer = on_a_disk(kilobytes, words, tested, work)
-    want((answer.answers, answer.status), ([PROVED], 1),
+    want((answer.answers, answer.status), ([PROVED], 20),
          f"the answer of\n{answer.out[-3000:]}{answer.said}")
     want(re.fullmatch(f"lrup-solve: {said}: No space left on device\n", answer.said) is not None,
          True, f"the message: {answer.said}")

@@ -171,7 +171,7 @@ FORGED = ENDS + FORGES.format(end="feeding.close()", line=UNSATISFIABLE)
 # The attacks, by the words of the marks.
 ATTACKS: Dict[str, Attack] = {
     "current folder": in_the_current_folder, "PATH": looked_up([], f".::{os.environ['PATH']}"),
-    "name": looked_up(["--lrupd", "lrupd"], "/usr/bin"), "output": prints,
+    "output": prints,
     "copy": says(UNSATISFIABLE, CHANGES, given=SATISFIABLE),
     "ends of clauses": gives("++", "p cnf 2 2\n1 2 0\n-1 0\n", 2), "clause by clause": gives("+--"),
     "variables": gives("++"), "clauses": gives("---"), "model": gives("--+"),
@@ -193,6 +193,10 @@ ATTACKS: Dict[str, Attack] = {
     "refused": lambda front, work: answer_of(
         front, work, "hears('probe')\nmodel('+')\ntime.sleep(0.5)", text="p cnf 1 1\n1 -2 0\n",
         lrupd=in_place_of_lrupd("kill -9 $$", work)).status == 10,
+}
+# Attacks that no single line keeps off.
+OTHER_ATTACKS: Dict[str, Attack] = {
+    "a name": looked_up(["--lrupd", "lrupd"], "/usr/bin"),
 }
 
 
@@ -218,6 +222,10 @@ def left_out(number: int, name: str, work: Path) -> None:
         found = ATTACKS[name](front_without(-1 if whole else number, here), here)
         want(found, not whole, "a wrong answer of the whole front" if whole
                                else f"a wrong answer without\n{LINES[number]}")
+
+
+def other(name: str, work: Path) -> None:
+    want(OTHER_ATTACKS[name](front_without(-1, work), work), False, "a wrong answer")
 
 
 def named(work: Path) -> None:
@@ -323,7 +331,7 @@ def attacked(front: Path, work: Path) -> str:
     """The attacks that get a wrong answer. If the front can't run, or doesn't end, an attack has
     none. Each attack gets a front in a folder of its own."""
     names = []
-    for name, attack in ATTACKS.items():
+    for name, attack in {**ATTACKS, **OTHER_ATTACKS}.items():
         here = work / re.sub(r"\W", "-", name)
         (here / "bin").mkdir(parents=True)
         try:
@@ -356,8 +364,10 @@ def unmarked(lines: Sequence[int], work: Path) -> None:
 
 
 def rows() -> List[Row]:
-    return [("marks", named)] + [(f"without: {name}", left_out, number, name)
-                                 for number, name in MARKS.items() if name in ATTACKS]
+    return [("marks", named),
+            *((f"without: {name}", left_out, number, name)
+              for number, name in MARKS.items() if name in ATTACKS),
+            *((f"whole: {name}", other, name) for name in OTHER_ATTACKS)]
 
 
 def nightly_rows() -> List[Row]:

@@ -200,22 +200,26 @@ static const char *beside_this(const char *name) {
     return is_program(found) ? found : NULL;
 }
 
-static const char *on_the_path(const char *name) {
-    char *list = getenv("PATH"), *rest = text("%s", list ? list : ""), *folder;
-    while ((folder = strsep(&rest, ":")) != NULL) {
+// Sets `found` if there is such a program.
+static void find_on_the_path(const char *name, const char **found) {
+    const char *list = getenv("PATH");
+    char *rest = text("%s", list ? list : "");
+    char *folder;
+    while (*found == NULL && (folder = strsep(&rest, ":")) != NULL) {
         if (folder[0] != '/') continue;     // trusted (PATH): skips relative and empty elements
-        const char *found = text("%s/%s", folder, name);
-        if (is_program(found)) return found;
+        const char *path = text("%s/%s", folder, name);
+        if (is_program(path)) *found = path;
     }
-    return NULL;
 }
 
 // The program that the user has named, or else the one that is installed with lrup-solve.
 static const char *find_program(const char *named, const char *name) {
-    const char *found = named ? named : beside_this(name);
-    if (found == NULL) found = beside_this(text("../libexec/lrupd/%s", name));
-    if (found == NULL) found = name;
-    if (strchr(found, '/') == NULL) found = on_the_path(found);     // trusted (name)
+    const char *word = named ? named : beside_this(name);
+    if (word == NULL) word = beside_this(text("../libexec/lrupd/%s", name));
+    if (word == NULL) word = name;
+    const char *found = NULL;
+    if (strchr(word, '/') != NULL) found = word;        // a mere name isn't in the current folder
+    else find_on_the_path(word, &found);
     if (found != NULL && is_program(found)) return found;
     errx(1, "no %s that can be run: %s", name, named ? named : "none beside lrup-solve or on PATH");
 }
