@@ -183,7 +183,7 @@ ATTACKS: Dict[str, Attack] = {
     "comments": says(UNSATISFIABLE, "say('s UNSATISFIABLE')"),
     "one line": says(UNSATISFIABLE, "say('c x\\ns UNSATISFIABLE')"), "expected": as_expected,
     "answer": as_expected, "options": unread, "words": unread, "help": helped,
-    "values": gives("++-"), "end of values": unfinished, "end": cut,
+    "first line": gives("++-"), "values": gives("++-"), "end of values": unfinished, "end": cut,
     "signal": killed_by_its_status, "status": says(UNSATISFIABLE, FORGED),
     "exit": says(UNSATISFIABLE, FORGED),
     "last line": lambda front, work: UNSATISFIABLE in answer_of(
@@ -327,19 +327,25 @@ def end_group(group: Path) -> None:
         time.sleep(0.05)
 
 
-def attacked(front: Path, work: Path) -> str:
-    """The attacks that get a wrong answer. If the front can't run, or doesn't end, an attack has
-    none. Each attack gets a front in a folder of its own."""
-    names = []
+def attacked(front: Path, work: Path) -> None:
+    """Writes the names of the attacks that get a wrong answer. If the front can't run, or doesn't
+    end, an attack has none. Each attack has a folder and a session of its own, since a front may
+    kill its whole process group."""
     for name, attack in {**ATTACKS, **OTHER_ATTACKS}.items():
-        here = work / re.sub(r"\W", "-", name)
+        here, said = work / re.sub(r"\W", "-", name), ""
         (here / "bin").mkdir(parents=True)
-        try:
-            if attack(Path(shutil.copy(front, here / "bin")), here):
-                names.append(name)
-        except (subprocess.TimeoutExpired, OSError):
-            pass
-    return ", ".join(names)
+        if os.fork() == 0:
+            os.setsid()
+            try:
+                said = name * attack(Path(shutil.copy(front, here / "bin")), here)
+            except (subprocess.TimeoutExpired, OSError):
+                pass
+            except Exception as found:
+                said = f"{name}: {found!r}"
+            with open(work / "names", "a") as names:
+                names.write(f"{said}\n" * bool(said))
+            os._exit(0)
+        os.wait()
 
 
 def unmarked(lines: Sequence[int], work: Path) -> None:
@@ -354,8 +360,9 @@ def unmarked(lines: Sequence[int], work: Path) -> None:
         if child == 0:
             try:
                 limit()
+                (work / "names").touch()
                 resource.setrlimit(resource.RLIMIT_AS, (MEMORY, MEMORY))
-                (work / "names").write_text(attacked(front, work))
+                attacked(front, work)
             finally:
                 os._exit(0)
         os.waitpid(child, 0)

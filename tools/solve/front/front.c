@@ -312,7 +312,7 @@ static bool satisfies(const char *path, bool is_formula) {
 
 // Ten values a line, and a 0 at the end.
 static void print_assignment(void) {
-    printf("s SATISFIABLE\nv");
+    printf("s SATISFIABLE\nv");                             // trusted (first line)
     for (long k = 1; k <= assigned; k++)
         printf(k > 1 && k % 10 == 1 ? "\nv %ld" : " %ld", k * assignment[k]);  // trusted (values)
     puts(" 0");                                             // trusted (end of values)
