@@ -9,7 +9,8 @@
      read:N:HOW     read; HOW is EIO, EINTR, `short` (one byte) or `half` (of the bytes asked for)
      write:N:HOW    write; HOW is EIO, ENOSPC, EPIPE, `short` or `half`
      open:N:HOW     an open without O_CREAT; HOW is EACCES, EMFILE, ENOENT or ELOOP
-     create:N:HOW   an open with O_EXCL; HOW is EACCES, EMFILE or ENOSPC
+     create:N:HOW   an open with O_EXCL; HOW is EACCES, EMFILE or ENOSPC. With SIGTERM the file is
+                    created, and then the program gets this signal
      hold:N:HOW     an open of /dev/null before any other file is opened; HOW is EMFILE
      sync:N:HOW     fsync and fdatasync; HOW is EIO or ENOSPC
    A tool for tests, not part of the program. */
@@ -18,6 +19,7 @@
 #include <errno.h>
 #include <fcntl.h>
 #include <pthread.h>
+#include <signal.h>
 #include <stdarg.h>
 #include <stdatomic.h>
 #include <stdio.h>
@@ -171,7 +173,12 @@ static int is_before_all(const char *path) {
 
 static int open_at(int folder, const char *path, int flags, va_list more) {
     int mode = flags & (O_CREAT | O_TMPFILE) ? va_arg(more, int) : 0;
-    if ((flags & O_EXCL) && is_refused(CREATE)) return (int)allowed(0);
+    if ((flags & O_EXCL) && is_refused(CREATE)) {
+        if (strcmp(how, "SIGTERM") != 0) return (int)allowed(0);
+        int file = (int)syscall(SYS_openat, folder, path, flags, mode);
+        raise(SIGTERM);
+        return file;
+    }
     if (!(flags & O_CREAT) && is_refused(is_before_all(path) ? HOLD : OPEN)) return (int)allowed(0);
     return (int)syscall(SYS_openat, folder, path, flags, mode);
 }

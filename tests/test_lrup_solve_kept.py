@@ -601,6 +601,39 @@ def check_interrupted(number: int, work: Path) -> None:
     want(os.listdir(files), [], "the files left there")
 
 
+def check_interrupted_between(line: str, work: Path) -> None:
+    """A signal that comes right after a program is started, before anything else, ends this program,
+    too."""
+    needs("xz")
+    files, slow, mark = work / "temporary", work / "slow", marked(work)
+    files.mkdir()
+    lrupd = before_lrupd(f"[ ! -e {slow} ] || exec sleep 100", work)
+    formula = generated("random 180 3", work)
+    want(solve(["--lrupd", lrupd, "-j", 2, "--proofs", "d", formula], tested=SMALL, cwd=work)
+         .status, 20, "the status")
+    want(run(["xz", *(work / "d").glob("round-1.stream-*")]).status, 0, "the packer's status")
+    slow.touch()
+    path = work / "d" / "command"
+    text, count = re.subn(line, r"\g<0> kill -TERM $$", path.read_text(), flags=re.M)
+    want(count, 1, "how many such lines there are")
+    path.write_text(text)
+    done = run(["sh", path], env={**os.environ, "TMPDIR": str(files)}, limit=20)
+    want((done.status, os.listdir(files)), (143, []), f"the status, and what is left: {done.err}")
+    none_left(mark)
+
+
+def unread(work: Path) -> None:
+    """Nothing is left if nobody reads what the check says."""
+    files = work / "temporary"
+    files.mkdir()
+    formula = generated("random 180 3", work)
+    want(solve(["-j", 2, "--proofs", "d", formula], tested=SMALL, cwd=work).status, 20,
+         "the status")
+    run(["sh", "-c", "{ sleep 0.5; sh d/command; } | true"], cwd=work,
+        env={**os.environ, "TMPDIR": str(files)})
+    want(os.listdir(files), [], "the files left")
+
+
 # Space.
 
 
@@ -770,6 +803,9 @@ def rows() -> List[Row]:
         ("gr\u00f6\u00dfe", "gr\u00f6\u00dfe"))]
     found += [(f"a check that gets {number.name}", check_interrupted, number)
               for number in (signal.SIGTERM, signal.SIGINT, signal.SIGHUP)]
+    found += [(f"a signal after {name}", check_interrupted_between, line) for name, line in (
+        ("a program that unpacks", r'^ *unpack "\$k" &$'), ("lrupd", r'^"\$lrupd" .* &$'))]
+    found += [("a check that nobody reads", unread)]
     found += [("a disk that is full of rounds", full_of_rounds),
               ("sizes that are shown", shown_sizes)]
     check = SOLVE.with_name("lrup-check")

@@ -14,7 +14,7 @@ import subprocess
 from pathlib import Path
 from typing import Dict, List, Mapping, Sequence
 
-from harness import (EXAMPLES, FOUR, LIMIT, Row, compiled, dimacs, example, generated, needs,
+from harness import (EXAMPLES, FOUR, LIMIT, TESTS, Row, compiled, dimacs, example, generated, needs,
                      parametrized, run, started, until, want, written)
 from solving import (FOR_TESTS, PROGRAM, SOLVE, check_again, marked, none_left, of_process,
                      processes_of, random_formula, solve, want_answer)
@@ -327,6 +327,20 @@ def background(work: Path) -> None:
     none_left(mark)
 
 
+def signalled_in_time(work: Path) -> None:
+    """The solver's process group is signalled before anybody waits for the group's leader, whose id
+    is the group's only as long as it isn't waited for."""
+    mark, shim = work / "mark", compiled(work / "late.so", [TESTS / "signal_late.c"], "-std=gnu11",
+                                         "-O2", "-shared", "-fPIC")
+    engines = written(f"#!/bin/sh\nexport LD_PRELOAD={shim} MARK={mark}\n"
+                      f"exec {SOLVE.with_name('lrup-engines')} \"$@\"\n", work, "engines")
+    engines.chmod(0o755)
+    solver = "sleep 0.1; exit 0 # %formula %proof"
+    want(solve(["--engines", engines, "--solver", solver, example("bmc.cnf")]).answers,
+         ["s UNKNOWN"], "the answer")
+    want(mark.exists(), False, "whether a group was signalled too late")
+
+
 def killed(number: int, whom: str, work: Path) -> None:
     """The first process or an engine's process is killed: no process of the command is left. The
     formula is too hard to be solved meanwhile."""
@@ -415,6 +429,7 @@ def rows() -> List[Row]:
     found += [(f"nothing runs: {command}", nothing_runs, command, cause)
               for command, cause in NOTHING]
     found += [(f"silent: {command}", silent_solver, command) for command in STANDING]
+    found += [("signalled in time", signalled_in_time)]
     found += [("models", after_a_model), ("in the background", background), ("stopped", stopped)]
     found += [(f"{whom} ended by {number}", killed, number, whom)
               for whom in ("first", "engine 1", "cadical")

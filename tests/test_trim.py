@@ -15,13 +15,15 @@ import os
 import random
 import re
 import shlex
+import signal
 import sys
 from pathlib import Path
 from typing import Dict, List, NamedTuple, Optional, Sequence, Tuple
 
 from harness import (COMPRESSED, COUNT, EXAMPLES, FILTER, FOUR, GENERATOR, PROGRAM, ROOT, SANITIZE,
-                     SANITIZING, TRIM, VERDICTS, Ran, Row, dimacs, example, lacking, parametrized,
-                     piped, random_clauses, run, sanitized_trim, sanitizer, want, within, written)
+                     SANITIZING, TESTS, TRIM, VERDICTS, Ran, Row, compiled, dimacs, example, lacking,
+                     parametrized, piped, random_clauses, run, sanitized_trim, sanitizer, want,
+                     within, written)
 from faulty import garbled_text, refuted, solved
 from lrat import lrat_fault
 from proof_forms import Clause, Step, read_formula, read_steps
@@ -552,6 +554,17 @@ def while_rewritten(seed: int, work: Path) -> None:
         want(len(os.listdir(folder)), 3 if status == 0 else 0, f"the files after status {status}")
 
 
+def ended_as_it_begins(output: str, work: Path) -> None:
+    """A signal comes once a file is created: it isn't left."""
+    shim = compiled(work / "refuse.so", [TESTS / "refuse.c"], "-std=gnu11", "-O2", "-shared",
+                    "-fPIC")
+    done = run([TRIM, output, "made", example("bmc.cnf"), example("bmc.lrup")], cwd=work,
+               env={**os.environ, "LD_PRELOAD": str(shim), "REFUSE": "create:1:SIGTERM",
+                    "MARK": str(work / "mark")})
+    want((done.status, sorted(os.listdir(work))), (-signal.SIGTERM, ["mark", "refuse.so"]),
+         f"the status, and what is left, with {done.err}")
+
+
 def no_place(work: Path) -> None:
     """A missing folder, and one name for two outputs: what was made before is removed."""
     for name, cause in (("none/x", "No such file or directory"), ("core", "File exists")):
@@ -631,6 +644,8 @@ def rows(count: int) -> List[Row]:
               for output, name in (("stream", "core"), ("lrat", "bmc.cnf"))]
     found += [(f"fault: {name}", fault, streams, said) for name, streams, said in FAULTS]
     found += [("beside a fault", other_stream_faulty), ("no place", no_place),
+              *((f"ended as it begins {output}", ended_as_it_begins, output)
+                for output in ("--core", "--lrat")),
               ("a file that is cut", cut)]
     found += [("help", help_of), ("digests", digests)]
     found += [(f"rewritten {seed}", while_rewritten, seed) for seed in range(4)]

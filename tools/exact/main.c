@@ -2,7 +2,6 @@
 // stream for lrupd from a proof whose hints are missing or not exact. docs/lrup-exact.1 describes
 // it, and is also the source of its --help.
 #include <errno.h>
-#include <fcntl.h>
 #include <signal.h>
 #include <stdio.h>
 #include <stdlib.h>
@@ -122,16 +121,8 @@ static void run(Input *input, Form form) {
     write_flush();
 }
 
-// Occupies descriptors 0 to 2, so that no file opened later is mistaken for a closed standard
-// stream.
-static void hold_first_files(void) {
-    for (int file = 0; file <= 2; file++)
-        if (fcntl(file, F_GETFD) < 0 && open("/dev/null", O_RDONLY) != file) _exit(1);
-}
-
 int main(int count, char **words) {
     static Input input;
-    hold_first_files();
     errors_handle(end);
     const Texts *files = arguments_read("lrup-exact", help, options, count, words);
     filter.stream = number_of(given.stream);

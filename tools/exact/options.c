@@ -1,8 +1,10 @@
 // Unverified, like every program that uses it. Reads a command line.
+#include <fcntl.h>
 #include <getopt.h>
 #include <stdio.h>
 #include <stdlib.h>
 #include <string.h>
+#include <unistd.h>
 
 #include "options.h"
 
@@ -48,6 +50,11 @@ const char *options_read(const Option *options, int count, char **words, Texts *
     return NULL;
 }
 
+void hold_first_files(void) {
+    for (int file = 0; file <= 2; file++)
+        if (fcntl(file, F_GETFD) < 0 && open("/dev/null", O_RDONLY) != file) _exit(1);
+}
+
 static const char *program_name, *program_help;
 
 // The help begins with a paragraph on usage.
@@ -61,6 +68,7 @@ _Noreturn void refuse(const char *cause, const char *word) {
 const Texts *arguments_read(const char *program, const char *help, const Option *options, int count,
                             char **words) {
     static Texts files;
+    hold_first_files();
     program_name = program;
     program_help = help;
     const char *shown = options_read(options, count, words, &files, false, refuse);

@@ -28,8 +28,13 @@ typedef struct {
 const char *options_read(const Option *options, int count, char **words, Texts *files,
                          bool last_counts, void (*refusing)(const char *cause, const char *word));
 
-// Like `options_read`, for a program that has the two options below. Refuses an option whose value
-// is given twice, and the word -, which doesn't mean standard input here.
+// Occupies descriptors 0 to 2, so that no file or pipe opened later is mistaken for a closed
+// standard stream. Each program calls this before it opens anything.
+void hold_first_files(void);
+
+// Like `options_read`, for a program that has the two options below; calls `hold_first_files`.
+// Refuses an option whose value is given twice, and the word -, which doesn't mean standard input
+// here.
 #define HELP_AND_VERSION { .name = "help", .letter = 'h' }, { .name = "version" }, { .name = NULL }
 const Texts *arguments_read(const char *program, const char *help, const Option *options, int count,
                             char **words);

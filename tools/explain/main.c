@@ -45,6 +45,7 @@ enum { USUAL_LINES = 65536, USUAL_ROOM = 1048576, MOST_TRIES = 1000000, BAD = 3 
 
 int main(int count, char **words) {
     errors_handle(end);
+    files_watch("lrup-explain", NULL);
     const Texts *files = arguments_read("lrup-explain", help, options, count, words);
     replay.row = (Row){ number(given.lines, USUAL_LINES, MOST_WORDS),
                         number(given.room, USUAL_ROOM, MOST_WORDS) };

@@ -16,9 +16,7 @@
 // them call, such as those of processes.cpp, run in each of these.
 #include <csignal>
 
-#include <fcntl.h>
-#include <unistd.h>
-
+#include "../exact/options.h"
 #include "run.h"
 
 // Overrides what the caller set. If SIGCHLD is ignored, no child can be waited for. A limit on the
@@ -28,13 +26,6 @@ static void set_signals() {
     signal(SIGCHLD, SIG_DFL);
     signal(SIGXFSZ, SIG_IGN);
     signal(SIGTTOU, SIG_IGN);
-}
-
-// Occupies descriptors 0 to 2, so that no pipe opened later is mistaken for a closed standard
-// stream.
-static void hold_first_files() {
-    for (int file = 0; file <= 2; file++)
-        if (fcntl(file, F_GETFD) < 0 && open("/dev/null", O_RDONLY) != file) _exit(1);
 }
 
 int main(int count, char **words) {

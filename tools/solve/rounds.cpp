@@ -163,7 +163,7 @@ if [ "$#" -eq 1 ]; then
     beside=''
     case $1 in /*) formula=$1 ;; *) formula=$PWD/$1 ;; esac
 fi
-case $0 in */*) cd -P -- "${0%/*}/" || exit 1 ;; *) cd -P . ;; esac
+case $0 in */*) cd -P -- "${0%/*}/" || exit 1 ;; *) cd -P . || exit 1 ;; esac
 record=$PWD
 [ -f "$lrupd" ] && [ -x "$lrupd" ] || lrupd=$(command -v lrupd) ||
     refuse "no lrupd, neither where this record's was nor on the PATH"
@@ -201,15 +201,21 @@ while [ "$round" -le "$rounds" ]; do
     round=$((round + 1))
 done
 made='' inside='' checker='' writers=''
-trap 'kill $checker $writers 2> /dev/null; wait; exit 143' HUP INT QUIT TERM
+end() {
+    trap '' HUP INT QUIT PIPE TERM
+    kill -KILL $checker $writers 2> /dev/null
+    wait 2> /dev/null
+    [ -z "$inside" ] || find . -name 'round-*' -exec rm -f {} +
+    [ -z "$made" ] || { cd / && rmdir -- "$made"; }
+}
+trap end EXIT
+trap 'writers="$writers $!"; exit 143' HUP INT QUIT TERM        # $!: the one that was just started
+trap 'writers="$writers $!"; exit 141' PIPE
 if [ "$rounds" -gt 1 ] || [ "$#" -gt 0 ]; then
     place=$(cd -- "${TMPDIR:-/tmp}" && pwd) || exit 1
     [ -z "$(find "$place/." -prune -perm -2 ! -perm -1000)" ] ||
         refuse "$place: others may write there: choose another TMPDIR"
-    trap '[ -z "$writers" ] || { kill $writers 2> /dev/null; wait; }
-        [ -z "$inside" ] || find . -name "round-*" -exec rm -f {} +
-        [ -z "$made" ] || { cd / && rmdir -- "$made"; }' EXIT
-    made=$(mktemp -d "$place/lrupd-XXXXXX") && cd -- "$made" || exit 1
+    made=$(trap '' HUP INT QUIT TERM; mktemp -d "$place/lrupd-XXXXXX") && cd -- "$made" || exit 1
     inside=yes
     find "$record/." ! -name . -prune -name 'round-[1-9]*.s*' \
         -exec sh -c 'ln -s "$@" .' sh {} + || exit 1
@@ -230,6 +236,9 @@ printf '%s\n' "$first"
 "$lrupd" $sizes "$@" < /dev/null &
 checker=$!
 wait "$checker"
+status=$?
+checker=''
+exit "$status"
 )sh";
 
 // The file's path relative to the record's folder, with symbolic links resolved; empty if the file

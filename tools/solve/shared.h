@@ -33,7 +33,7 @@ typedef struct {
     // The engine writes:
     int answer;                 // 10 or 20, once its proof and the model are written
     uint64_t conflicts, slices, taken, refused, satisfied;
-    int group;                  // the process group of a user's solver
+    int group;                  // the process group of a user's solver, until that has ended
     int unfounded;              // it says 10 without an assignment
     uint64_t proof_read;        // bytes of an existing proof
     // the end of a solver's standard error, or why a proof can't be read; read it once the engine has

@@ -150,9 +150,13 @@ bool hand_on(int signals, pid_t group) {
     return ends;
 }
 
-// Orphans of the solver are children of this process.
-void end_all(pid_t group) {
+// Ends what the solver has left, too: its orphans are children of this process. Until the group gets
+// the signal, nobody has waited for its leader, so no other process or group can have that id.
+// Returns the leader's status, as from wait.
+int end_all(pid_t group) {
+    int status = 0;
     kill(-group, SIGKILL);
+    while (waitpid(group, &status, 0) < 0 && errno == EINTR) {}
     while (waitpid(-group, nullptr, 0) > 0 || errno == EINTR) {}
     for (bool any = true; any;) {
         std::ifstream list("/proc/thread-self/children");
@@ -160,21 +164,29 @@ void end_all(pid_t group) {
         for (pid_t child; list >> child; any = true) kill(child, SIGKILL);
         if (any) waitpid(-1, nullptr, 0);
     }
+    return status;
 }
 
-// The status, as from wait. What the command has left in the background is ended, too.
+// Whether the process has ended. It isn't waited for.
+bool has_ended(pid_t pid) {
+    siginfo_t end = {};
+    return waitid(P_PID, id_t(pid), &end, WEXITED | WNOHANG | WNOWAIT) == 0 && end.si_pid == pid;
+}
+
+// The status, as from wait; 0 if the solver has to be ended.
 int wait_for_solver(pid_t group, int signals, int out, int error, Printed &printed,
                     LastLine &last) {
-    int status = 0;
-    for (bool ended = false; !ended;) {
+    bool is_told = false, is_over = false;
+    while (!is_told && !is_over) {
         pollfd list[] = { { signals, POLLIN, 0 }, { out, POLLIN, 0 }, { error, POLLIN, 0 } };
         poll(list, 3, -1);
-        ended = hand_on(signals, group) || waitpid(group, &status, WNOHANG) == group;
+        is_told = hand_on(signals, group);
+        is_over = !is_told && has_ended(group);
         if (out >= 0) printed.read_from(out);
         last.read_from(error);
     }
-    end_all(group);
-    return status;
+    int status = end_all(group);
+    return is_over ? status : 0;
 }
 
 }
@@ -213,6 +225,7 @@ void solver_process(const Engine &engine, const std::string &command,
     close_file(out.write);
     close_file(error.write);
     int status = wait_for_solver(pid, signals, out.read, error.read, printed, last);
+    STORE(engine.shared->engine_statuses[engine.number - 1].group, 0);
     last.copy_to(engine.shared->engine_statuses[engine.number - 1].last_words);
     int exited = WIFEXITED(status) ? WEXITSTATUS(status) : 0, answer = printed.answer(exited);
     if (printed.is_unfounded(exited))

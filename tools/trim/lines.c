@@ -90,11 +90,24 @@ static int unpacked(int packed, const char *program, const char *path) {
     return file;
 }
 
-// SIGBUS: bytes were read that the file doesn't have any more.
+static const char *reader;
+static void (*remove_outputs)(void);
+
+// SIGBUS: bytes were read that the file doesn't have any more. A handler of signals may call only a
+// few functions of the library.
 static void file_was_cut(int number) {
+    static const char cause[] = ": a file was truncated while it was read\n";
     (void)number;
-    position_set(NULL, 0);
-    stop("a file was truncated while it was read");
+    if (remove_outputs) remove_outputs();
+    bool is_told = write(STDERR_FILENO, reader, strlen(reader)) >= 0;
+    if (is_told && write(STDERR_FILENO, cause, sizeof cause - 1) < 0) _exit(1);
+    _exit(1);
+}
+
+void files_watch(const char *program, void (*removes)(void)) {
+    reader = program;
+    remove_outputs = removes;
+    signal(SIGBUS, file_was_cut);
 }
 
 // Maps the file over zeros, which then follow its bytes; so an empty file has memory, too.
@@ -107,7 +120,6 @@ unsigned char *file_map(const char *path, size_t *length) {
         if (fstat(file, &found) != 0) stop("%s: %s", path, strerror(errno));
         *length = (size_t)found.st_size;
     }
-    signal(SIGBUS, file_was_cut);
     unsigned char *start = mmap(NULL, *length + BEYOND, PROT_READ, MAP_PRIVATE | MAP_ANONYMOUS, -1,
                                 0);
     if (start != MAP_FAILED && *length > 0)

@@ -16,6 +16,9 @@ typedef struct {
     const char *text, *hints;           // a copy of the line; where its hints begin
 } Reading;
 
+// Call first: if another program truncates a file, this one calls `removes` (NULL: nothing), which
+// may only unlink, and ends with status 1.
+void files_watch(const char *program, void (*removes)(void));
 // the file's bytes, and eight more; unpacks a file whose name says that it is compressed
 unsigned char *file_map(const char *path, size_t *length);
 void file_unmap(unsigned char *start, size_t length);

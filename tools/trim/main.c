@@ -144,6 +144,7 @@ static void run(Proof *proof, const Texts *files) {
 int main(int count, char **words) {
     static Proof proof;
     errors_handle(end);
+    files_watch("lrup-trim", outputs_remove);
     const Texts *files = arguments_read("lrup-trim", help, options, count, words);
     check_outputs();
     proof.folder = folder_of(files);

@@ -3,6 +3,7 @@
 #define _GNU_SOURCE
 #include <errno.h>
 #include <fcntl.h>
+#include <signal.h>
 #include <stdlib.h>
 #include <string.h>
 #include <unistd.h>
@@ -33,12 +34,18 @@ static void to_output(const char *bytes, size_t length) {
     output->bytes += length;
 }
 
+// A signal that ends the program comes once the file is in the list.
 void output_open(Output *place) {
+    sigset_t all, before;
     output = place;
+    sigfillset(&all);
+    sigprocmask(SIG_BLOCK, &all, &before);
     made[made_length] = output->path;
     output->file = open(output->path, O_WRONLY | O_CREAT | O_EXCL | O_CLOEXEC, 0666);
-    if (output->file < 0) stop("%s: %s", output->path, strerror(errno));
-    made_length++;
+    int error = errno;
+    if (output->file >= 0) made_length++;
+    sigprocmask(SIG_SETMASK, &before, NULL);
+    if (output->file < 0) stop("%s: %s", output->path, strerror(error));
     write_to(to_output);
 }
 
