@@ -268,7 +268,7 @@ def kill_children(children: Mapping[str, int], names: Sequence[str],
 
 def is_built(path: Path) -> bool:
     """Whether the build is newer than its sources."""
-    files = ("Makefile", "VERSION", "tools/lrup-chain", "tools/help.awk")
+    files = ("Makefile", "VERSION", "tools/lrup-chain", "tools/help.awk", "tools/solve/lrup-check")
     globs = ("docs/lrup-*.1", "tools/solve/*.[ch]*", "tools/solve/front/*.[ch]", "tools/exact/*.*")
     return is_newer(path, [*(ROOT / name for name in files),
                            *(source for glob in globs for source in ROOT.glob(glob))])

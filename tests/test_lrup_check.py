@@ -7,21 +7,25 @@ named."""
 import os
 import random
 import shutil
+import signal
+import subprocess
 import time
 from pathlib import Path
 from typing import List, Mapping, Optional, Sequence
 
 from harness import (EXAMPLES, FOUR, Row, dimacs, example, generated, needs, parametrized, run,
-                     want, written)
+                     started, until, want, written)
 from lrat import lrat_fault
 from proof_forms import read_formula
-from solving import FOR_TESTS, PROGRAM, SOLVE, TESTED, Answer, check_again, in_environment
+from solving import (FOR_TESTS, PROGRAM, SOLVE, TESTED, Answer, check_again, in_environment, marked,
+                     none_left, processes_of)
 
 BMC = ["bmc-four.1", "bmc-four.2", "bmc-four.3", "bmc-four.4"]
 MANY_ROUNDS = {"FIRST_WORDS": 4000, "SAME_WORDS": 1}
 FIRST = "p cnf 2 1\n1 2 0\n"
 UNREADABLE = "/proc/self/mem: it can't be read: Input/output error"
 XOR = dimacs(2, [[1, 2], [-1, 2], [1, -2], [-1, -2]])
+GOOD, SHORT = "1 0\n", "1 2 0\n"       # proofs of this formula; the second one ends early
 
 
 def check(words: Sequence[object], tested: Optional[Mapping[str, object]] = None,
@@ -31,13 +35,13 @@ def check(words: Sequence[object], tested: Optional[Mapping[str, object]] = None
                       env=in_environment(tested), **how))
 
 
-def want_proved(answer: Answer, verdict: str = "s UNSATISFIABLE") -> None:
-    want((answer.answers, answer.status, answer.said), ([verdict], 20, ""),
+def want_proved(answer: Answer, verdict: str = "s UNSATISFIABLE", status: int = 0) -> None:
+    want((answer.answers, answer.status, answer.said), ([verdict], status, ""),
          f"the answer of\n{answer.out[-2000:]}")
 
 
 def want_none(answer: Answer, cause: str) -> None:
-    want((answer.answers, answer.status, answer.said), (["s UNKNOWN"], 0, ""),
+    want((answer.answers, answer.status, answer.said), (["s UNKNOWN"], 3, ""),
          f"the answer of\n{answer.out[-2000:]}")
     want(answer.comments[:1], [cause], f"the first comment of\n{answer.out[-2000:]}")
 
@@ -90,6 +94,13 @@ def by_hand(text: str, proof: str, work: Path) -> None:
     want_proved(check([written(text, work), written(proof, work, "proof")]))
 
 
+def with_hints(proof: str, said: str, work: Path) -> None:
+    """Wrong hints don't matter, since right ones are found, but a comment counts them."""
+    answer = check([written(XOR, work), written(proof, work, "proof")])
+    want_proved(answer)
+    want([line for line in answer.comments if "hints" in line], [said] * bool(said), "the comments")
+
+
 def streams(order: Sequence[int], work: Path) -> None:
     """The streams of four solvers, which cite each other, given in this order."""
     want_proved(check([example("bmc.cnf"), *(EXAMPLES / BMC[number - 1] for number in order)]))
@@ -138,8 +149,13 @@ def core_and_lrat(work: Path) -> None:
 def assumed(work: Path) -> None:
     formula, assumptions = (written("p cnf 3 2\n-1 2 0\n-2 3 0\n", work),
                             written("1 -3 0\n", work, "assumptions"))
-    want_proved(check(["--assume", assumptions, formula, written("-1 3 0\n", work, "proof")]),
-                "s UNSATISFIABLE UNDER ASSUMPTIONS")
+    proof, under = written("-1 3 0\n", work, "proof"), "s UNSATISFIABLE UNDER ASSUMPTIONS"
+    want_proved(check(["--assume", assumptions, formula, proof]), under, 8)
+    want_proved(check([f"--assume={assumptions}", formula, proof]), under, 8)
+    words = ["--assume", assumptions, "--expect", "unsat-under-assumptions", formula, proof]
+    want_proved(check(words), under, 0)
+    four, proof = written(FOUR, work, "four"), written("2 0\n0\n", work, "proof of four")
+    want_proved(check(["--assume", written("1 0\n", work, "assumptions"), four, proof]), status=8)
 
 
 # Faulty proofs.
@@ -151,6 +167,42 @@ def refused(text: str, proof: str, cause: str, work: Path) -> None:
     want_none(check([written(text, work), path]), f"{path}: {cause}")
 
 
+def unusable(text: str, proof: bytes, cause: str, work: Path) -> None:
+    """A file that isn't a proof at all: no answer, and status 1. Beside a proof it doesn't
+    count."""
+    formula, path = written(text, work), written(proof, work, "proof")
+    answer = check([formula, path])
+    want((answer.answers, answer.said, answer.status), ([], f"lrup-check: {path}: {cause}\n", 1),
+         f"the answer of\n{answer.out}")
+    other = written("-2 0\n", work, "other")
+    answer = check([formula, path, other])
+    want((answer.answers, answer.said, answer.status), (["s UNKNOWN"], "", 3),
+         f"the answer beside a proof that doesn't follow, of\n{answer.out}")
+
+
+def expected(options: Sequence[str], proof: str, status: int, work: Path) -> None:
+    """Status 0 is a proved answer, whatever words there are: values may look like options."""
+    done = check([*options, written(XOR, work), written(proof, work, "proof")], cwd=work)
+    answer = "s UNSATISFIABLE" if proof == GOOD else "s UNKNOWN"
+    want((done.answers, done.status), ([answer], status), f"the answer, with {done.said}")
+
+
+def ended(number: signal.Signals, work: Path) -> None:
+    """A signal to the script ends the whole run. SIGKILL, too, if there is setpriv."""
+    if number == signal.SIGKILL:
+        needs("setpriv")
+    mark, pipe = marked(work), work / "pipe"
+    os.mkfifo(pipe)
+    with started([SOLVE.with_name("lrup-check"), "--lrupd", PROGRAM, written(FOUR, work), pipe],
+                 stdout=subprocess.PIPE, text=True) as running:
+        until("it runs", lambda: len(processes_of(mark)) >= 6)
+        running.send_signal(number)
+        out = running.communicate(timeout=20)[0]
+    want((running.returncode, out.splitlines()[-1:]), (-number, ["s UNKNOWN"]),
+         f"the status, and the last line of\n{out}")
+    none_left(mark)
+
+
 def of_satisfiable(seed: int, work: Path) -> None:
     """A proof of another formula never refutes a satisfiable one."""
     formula = generated(f"random 60 {seed} 3.0", work)
@@ -159,7 +211,7 @@ def of_satisfiable(seed: int, work: Path) -> None:
     proof = proof_by("cadical -q --no-binary formula proof",
                      generated(f"random 60 {seed} 6.0", other), work)
     answer = check([formula, proof])
-    want((answer.answers, answer.status), (["s UNKNOWN"], 0), f"the answer of\n{answer.out}")
+    want((answer.answers, answer.status), (["s UNKNOWN"], 3), f"the answer of\n{answer.out}")
 
 
 def mutated(seed: int, work: Path) -> None:
@@ -174,8 +226,8 @@ def mutated(seed: int, work: Path) -> None:
             numbers.choice((-1, 1)) * numbers.randrange(1, 41))
         lines[at] = " ".join(words) + "\n"
     answer = check(["--lrat", work / "lrat", formula, written("".join(lines), work, "proof")])
-    want(answer.status in (0, 20), True, f"the status {answer.status} of\n{answer.out}")
-    if answer.status == 20:
+    want(answer.status in (0, 3), True, f"the status {answer.status} of\n{answer.out}")
+    if answer.status == 0:
         want(lrat_fault(read_formula(formula), (work / "lrat").read_text()), "",
              "the LRAT checker's message")
 
@@ -251,6 +303,13 @@ ROWS: List[Row] = [
     ("core and LRAT", core_and_lrat), ("assumptions", assumed),
     ("DRUP by hand", by_hand, XOR, "1 0\n0\n"),
     ("LRAT by hand", by_hand, XOR, "5 1 0 1 3 0\n6 0 5 2 4 0\n"),
+    *((f"hints: {name}", with_hints, proof, said) for name, proof, said in (
+        ("right", "5 1 0 1 3 0\n6 0 5 2 4 0\n", ""),
+        ("none", "5 1 0 0\n6 0 0\n", ""),
+        ("one too many, which is unit", "5 1 0 1 3 0\n6 2 0 5 2 0\n7 0 6 5 4 0\n", ""),
+        ("one missing", "5 1 0 1 3 0\n6 0 5 2 0\n", "1 line had other hints"),
+        ("another order", "5 1 0 1 3 0\n6 0 2 4 5 0\n", "1 line had other hints"),
+        ("two lines", "5 1 0 3 0\n6 0 2 4 0\n", "2 lines had other hints"))),
     ("no empty clause, and one follows", by_hand, XOR, "1 0\n"),
     ("an empty proof, and one follows", by_hand, "p cnf 1 2\n1 0\n-1 0\n", ""),
     ("a clause that doesn't follow", refused, XOR.replace("-1 -2 0\n", "").replace("2 4", "2 3"),
@@ -258,10 +317,30 @@ ROWS: List[Row] = [
     ("a RAT step", refused, FIRST, "1 0\n", f"line 1: {NONE}1 0{RAT}"),
     ("a deletion that came too early", refused, XOR, "d 1 2 0\n1 0\n2 0\n0\n",
      f"line 2: {NONE}1 0{NOT_RAT}{DELETED}"),
-    ("a proof that ends early", refused, FIRST, "", "the proof ends without the empty clause"),
+    ("a proof that ends early", refused, XOR, SHORT, "the proof ends without the empty clause"),
+    *((f"no proof: {name}", unusable, FIRST, proof, cause) for name, proof, cause in (
+        ("empty", b"", "the proof ends without the empty clause"),
+        ("comments", b"c nothing\n\n", "the proof ends without the empty clause"),
+        ("gzip", b"\x1f\x8b garbled", "byte 1: compressed: unpack it with zcat"),
+        ("xz", b"\xfd7zXZ\0 garbled", "byte 1: compressed: unpack it with xzcat"),
+        ("zip", b"PK\3\4\x14\0\xff", "line 1: neither text nor a binary proof"),
+        ("a program", b"\x7fELF\2\1\1\0\0\xff", "line 1: neither text nor a binary proof"),
+        ("a formula", FIRST.encode(),
+         "line 1: neither a step of LRAT text nor one of DRUP or DRAT text"),
+        ("an answer", b"s UNSATISFIABLE\n",
+         "line 1: neither a step of LRAT text nor one of DRUP or DRAT text"))),
+    *((f"{' '.join(options)}, status {status}", expected, options, proof, status)
+      for options, proof, status in (
+          ([], GOOD, 0), (["--expect", "unsat"], GOOD, 0), (["--expect=unsat"], SHORT, 1),
+          (["--expect", "unsat"], SHORT, 1), (["-q", "--expect", "unsat"], GOOD, 0),
+          (["--expect", "unsat-under-assumptions"], GOOD, 1), (["-q"], SHORT, 3),
+          (["--proofs", "--expect"], SHORT, 3), (["--proofs", "--expect"], GOOD, 0),
+          (["--proofs", "--assume", "--"], GOOD, 0), (["--proofs=--expect"], SHORT, 3),
+          (["--proofs", "--help"], SHORT, 3))),
+    *((f"ended by {number.name}", ended, number)
+      for number in (signal.SIGTERM, signal.SIGINT, signal.SIGHUP, signal.SIGKILL)),
     ("a new variable", refused, FIRST, "3 0\n",
      "line 1: a variable that the formula doesn't have: 3, above the header's 2"),
-    ("compressed", refused, FIRST, "\x1f\x8b garbled", "byte 1: compressed: unpack it with zcat"),
     *((f"a proof of another formula, {seed}", of_satisfiable, seed) for seed in range(1, 4)),
     *((f"mutated, {seed}", mutated, seed) for seed in range(1, 41)),
     ("no proof", misused, ["%formula"], "no proof: lrup-check FORMULA PROOF"),

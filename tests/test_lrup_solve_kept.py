@@ -602,8 +602,8 @@ def check_interrupted(number: int, work: Path) -> None:
 
 
 def check_interrupted_between(line: str, work: Path) -> None:
-    """A signal that comes right after a program is started, before anything else, ends this program,
-    too."""
+    """A signal that comes right after a program is started, before anything else, ends this
+    program, too."""
     needs("xz")
     files, slow, mark = work / "temporary", work / "slow", marked(work)
     files.mkdir()

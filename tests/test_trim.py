@@ -21,9 +21,9 @@ from pathlib import Path
 from typing import Dict, List, NamedTuple, Optional, Sequence, Tuple
 
 from harness import (COMPRESSED, COUNT, EXAMPLES, FILTER, FOUR, GENERATOR, PROGRAM, ROOT, SANITIZE,
-                     SANITIZING, TESTS, TRIM, VERDICTS, Ran, Row, compiled, dimacs, example, lacking,
-                     parametrized, piped, random_clauses, run, sanitized_trim, sanitizer, want,
-                     within, written)
+                     SANITIZING, TESTS, TRIM, VERDICTS, Ran, Row, compiled, dimacs, example,
+                     lacking, parametrized, piped, random_clauses, run, sanitized_trim, sanitizer,
+                     want, within, written)
 from faulty import garbled_text, refuted, solved
 from lrat import lrat_fault
 from proof_forms import Clause, Step, read_formula, read_steps

@@ -286,6 +286,7 @@ static void look_for_chain(Filter *filter, const Addition *addition, bool has_le
 static Found find_chain(Filter *filter, const Addition *addition) {
     bool has_lemmas = has_identities(filter, addition);
     Found found = addition->hinted > 0 ? try_hints(filter, addition) : NO_CHAIN;
+    filter->other_hints += addition->hinted > 0 && !filter->hints.are_right;
     size_t hints = found == SAME_CHAIN ? addition->hinted : filter->chain.length;
     if (found == NO_CHAIN || (hints > IDENTITIES_OF_A_LINE && has_lemmas)) {
         propagation_settle(&filter->propagation);
@@ -318,6 +319,7 @@ static void derive(Filter *filter, const Addition *addition) {
 
 // A tautology is of no use, and lrupd refuses it.
 void filter_add(Filter *filter, const Addition *addition) {
+    filter->steps++;
     int64_t least = 0;
     for (size_t k = 0; k < addition->hinted; k++)
         least = addition->hints[k] < least ? addition->hints[k] : least;
@@ -353,6 +355,7 @@ static void write_import(uint64_t identity, const int64_t *literals, size_t leng
 
 // From now on, steps may use the clause.
 void filter_import(Filter *filter, int64_t identity, const int64_t *literals, size_t length) {
+    filter->steps++;
     int64_t formula = (int64_t)filter->formula.clauses;
     if (filter->hooks && filter->others.length == 0)
         stop("an import, but the solver shares nothing");
@@ -438,6 +441,7 @@ static void forget_lemmas(Filter *filter) {
 
 // Names without clauses are skipped. FRAT may use a name again.
 void filter_delete(Filter *filter, const int64_t *names, size_t length) {
+    filter->steps++;
     if (filter->refuted) return;
     if (filter->propagation.used) propagation_settle(&filter->propagation);
     filter->chain.length = 0;
@@ -463,6 +467,7 @@ static ClauseRef take_set(Filter *filter, const int64_t *literals, size_t length
 }
 
 void filter_delete_literals(Filter *filter, const int64_t *literals, size_t length) {
+    filter->steps++;
     if (filter->refuted) return;
     if (filter->clauses.sets == NULL) clauses_keep_sets(&filter->clauses);
     propagation_settle(&filter->propagation);
@@ -477,6 +482,7 @@ void filter_delete_literals(Filter *filter, const int64_t *literals, size_t leng
 // Steps that only FRAT has.
 
 void filter_original(Filter *filter, int64_t name, const int64_t *literals, size_t length) {
+    filter->steps++;
     if (clauses_named(&filter->clauses, (uint64_t)name) != 0)
         stop("the identity %lld is used twice", (long long)name);
     ClauseRef ref = take_set(filter, literals, length);
@@ -487,6 +493,7 @@ void filter_original(Filter *filter, int64_t name, const int64_t *literals, size
 
 // Each pair is an old name and a new one; all change at once.
 void filter_rename(Filter *filter, const int64_t *pairs, size_t length) {
+    filter->steps++;
     ClauseRefs *given = &filter->given;
     given->length = 0;
     for (size_t k = 0; k + 1 < length; k += 2) {

@@ -46,6 +46,8 @@ struct Filter {
     bool keeps_clauses;             // deletions aren't written: lrupd keeps the clauses
     bool ignores_deletions;         // the proof's deletions
     int marked;                     // how many marks precede the next addition
+    uint64_t steps;                 // that were read
+    uint64_t other_hints;           // steps whose hints weren't right as they were given
     bool refuted;                   // the stream has the empty clause, and needs nothing more
     bool busy;                      // a chain is being built: no clause may move
     const Hooks *hooks;             // NULL: none

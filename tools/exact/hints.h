@@ -2,6 +2,7 @@
 #ifndef HINTS_H
 #define HINTS_H
 
+#include <stdbool.h>
 #include <stddef.h>
 #include <stdint.h>
 
@@ -20,6 +21,7 @@ typedef struct {
     LIST_OF(Step) steps;
     LIST_OF(Held) held;
     Literals headed;
+    bool are_right;             // the last hints that were given, in their order
 } Hints;
 
 typedef enum { NO_CHAIN, SOME_CHAIN, SAME_CHAIN } Found;

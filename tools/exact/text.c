@@ -57,7 +57,9 @@ void text_run(Filter *filter, Input *input, Form form) {
         if (words.numbers.length == 0) continue;
         if (words.numbers.items[0] == LETTER('c') || words.numbers.items[0] == LETTER('o'))
             continue;
-        if (words.garbled && !line_is_text(line)) stop("not text: use --format for a binary proof");
+        if (words.garbled && !line_is_text(line))
+            stop(filter->hooks ? "neither text nor a binary proof"
+                               : "not text: use --format for a binary proof");
         words_check_whole(&words, line);
         step(filter, &words, &line, &form);
     }

@@ -199,6 +199,14 @@ void Display::lost() const {
         if (teams[k].told) tell(teams.why_lost(k));
 }
 
+void Display::hints() const {
+    for (size_t k = 0; k < teams.size() && inputs.options.check; k++) {
+        uint64_t count = LOAD(teams.engine_status(k).other_hints);
+        std::string whose = teams.size() > 1 ? teams[k].command + ": " : "";
+        if (count > 0 && !teams[k].told) tell(whose + counted(count, "line") + " had other hints");
+    }
+}
+
 void Display::causes(const std::string &cause) const {
     if (!checker.last_line().empty() && !inputs.options.verbose) tell(checker.last_line());
     const std::string &report = checker.report;

@@ -29,6 +29,7 @@ public:
     void tell_more(const std::string &line) const;      // with -v only
     void details() const;
     void lost() const;                  // why each lost engine was lost
+    void hints() const;                 // how many lines of each proof had wrong ones
     void causes(const std::string &cause) const;        // why there is no answer
     void record() const;                // the record's size
     void summary() const;

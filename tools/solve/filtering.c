@@ -36,6 +36,7 @@ static _Noreturn void leave(const char *cause) {
     bool over = LOAD(own->shared->over);        // if true, the engine was killed within a step
     if (cause && !over) snprintf(engine_status->cause, sizeof engine_status->cause, "%s", cause);
     engine_status->proof_ended = input.ended;
+    engine_status->has_steps = filter.steps > 0;
     _exit(cause && !over);
 }
 
@@ -247,6 +248,7 @@ static void count(void) {
     STORE(engine_status->round_lines, engine_status->round_lines + 1);
     STORE(engine_status->round_literals, engine_status->round_literals + filter.literals.length);
     STORE(engine_status->hints, engine_status->hints + filter.chain.length);
+    STORE(engine_status->other_hints, filter.other_hints);
     STORE(engine_status->citing_others, engine_status->citing_others + (others > 0));
     STORE(engine_status->citing_elsewhere, engine_status->citing_elsewhere + (elsewhere > 0));
 }

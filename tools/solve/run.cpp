@@ -181,7 +181,8 @@ void Run::look_at_teams() {
     std::string contradicting = inputs.contradiction();
     const char *none = inputs.options.check ? "no proof is left" : "no engine is left";
     finish(UNKNOWN_ANSWER, contradicting.empty() ? none : contradicting);
-    if (!any_has_begun) unstarted = "nothing could run: " + teams[0].cause;
+    if (!any_has_begun)
+        unstarted = inputs.options.check ? teams.why_lost(0) : "nothing could run: " + teams[0].cause;
 }
 
 // The proof is complete once the filter has written its last line, whatever the engine says.
@@ -206,6 +207,7 @@ void Run::look_at_team(size_t k) {
     if (look_at_end(k) || !team.filter.ended() || !(both_ended || !team.filter.ended_with(0))) return;
     if (facts.proof_ended && team.engine.running) return;       // the engine ends soon, too
     std::string end = facts.cause[0] ? std::string("stopped: ") + facts.cause : team.filter.end();
+    team.idle = inputs.options.check && facts.cause[0] && !facts.has_steps;     // it isn't a proof
     tell_lost(k, inputs.options.check && facts.cause[0] ? facts.cause : end_before(k) + "its filter " + end);
     team.engine.signal(SIGKILL);
 }
@@ -367,6 +369,7 @@ void Run::send_answer() {
     if (inputs.options.verbose) display.details();
     if (inputs.options.verbose && others) others->details();
     display.lost();
+    display.hints();
     if (answer == UNKNOWN_ANSWER) display.causes(cause);
     std::string next = rounds.how_to_go_on();
     if (answer == UNKNOWN_ANSWER && !next.empty()) display.tell(next);

@@ -45,6 +45,7 @@ typedef struct {
     uint64_t refuted_cubes;
     // The filter writes:
     uint64_t lines, literals, hints, given;                     // of all rounds
+    uint64_t other_hints;       // lines whose hints in the proof weren't right
     // lines that cite another stream; lines that cite a stream of another host
     uint64_t citing_others, citing_elsewhere;
     uint64_t round_lines, round_literals;                       // of this round
@@ -63,6 +64,7 @@ typedef struct {
     char unkept[LONGEST_CAUSE]; // why the record doesn't have more
     char cause[LONGEST_CAUSE];  // why the filter stopped; read it once the filter has ended
     int proof_ended;            // when it ended, it had read the whole proof
+    int has_steps;              // and at least one step
     // The first process writes:
     uint64_t stream;            // its number in this round, or in the next; 0: it has none
     uint64_t fed;               // bytes of its stream that lrupd has got
