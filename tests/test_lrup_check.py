@@ -4,11 +4,14 @@ Proofs are written by CaDiCaL, CryptoMiniSat and PicoSAT, if they are on the PAT
 solver, and by hand; they come from a file, a pipe and standard input, alone and in parallel, in one
 round and in many. A step that doesn't follow gives no verdict, and its line and clause are
 named."""
+import fcntl
 import os
+import pty
 import random
 import shutil
 import signal
 import subprocess
+import termios
 import time
 from pathlib import Path
 from typing import List, Mapping, Optional, Sequence
@@ -269,6 +272,34 @@ def by_substitution(work: Path) -> None:
                             PROGRAM, formula, proof])))
 
 
+def at_a_terminal(name: str, work: Path) -> None:
+    """The process that would read the proof is in the background, where a terminal stops it."""
+    master, terminal = pty.openpty()
+
+    def take_terminal() -> None:
+        os.setsid()
+        fcntl.ioctl(0, termios.TIOCSCTTY, 0)
+
+    try:
+        answer = check([written(FOUR, work), name], stdin=terminal, preexec_fn=take_terminal,
+                       limit=20)
+    finally:
+        os.close(master)
+        os.close(terminal)
+    shown = "standard input" if name == "-" else name
+    want((answer.out, answer.said, answer.status),
+         ("", f"lrup-check: {shown} is a terminal: name a file, or use a pipe\n", 1), "the answer")
+
+
+def said_once(work: Path) -> None:
+    """With -v, a step that doesn't follow is shown once, and then whether it would without
+    deletions."""
+    formula, proof = written(XOR, work), written("d 1 2 0\n1 0\n2 0\n0\n", work, "proof")
+    comments = check(["-v", formula, proof]).comments
+    lines = [line for line in comments if line.startswith(f"{proof}:")]
+    want(lines, [f"{proof}: line 2: {NONE}1 0{NOT_RAT}", f"{proof}:{DELETED[1:]}"], "the comments")
+
+
 def help_of(work: Path) -> None:
     answer = check(["--help"])
     want((answer.out.startswith("usage: lrup-check [OPTIONS] FORMULA PROOF"), answer.said,
@@ -291,7 +322,8 @@ FORMS = ["cadical -q formula proof", "cadical -q --no-binary formula proof",
 NONE = "no conflict by unit propagation: the clause "
 RAT, NOT_RAT = (" is a RAT step, which lrupd doesn't check",
                 " doesn't follow from those that weren't deleted, and it isn't RAT")
-DELETED, NOT_DELETED = (". It would follow if no clause had been deleted before it",
+DELETED, NOT_DELETED = (". It would follow if no clause had been deleted before it: see "
+                        "lrup-exact's --ignore-deletions",
                         ". Nor would it follow if none had been deleted")
 ROWS: List[Row] = [
     *((f"{command}, {name}", of_solver, command, name, "file") for command in FORMS
@@ -357,7 +389,8 @@ ROWS: List[Row] = [
      "--seed is lrup-solve's: lrup-check starts no engine"),
     ("an answer that no proof has", misused, ["--expect", "sat", "%formula", "%proof"],
      "--expect takes unsat or unsat-under-assumptions, not sat"),
-    ("--help", help_of), ("anywhere", anywhere), ("no writer", no_writer),
+    *((f"{name} at a terminal", at_a_terminal, name) for name in ("-", "/dev/stdin", "/dev/tty")),
+    ("said once", said_once), ("--help", help_of), ("anywhere", anywhere), ("no writer", no_writer),
     ("a late writer", late_writer), ("by substitution", by_substitution),
 ]
 

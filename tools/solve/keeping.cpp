@@ -277,6 +277,7 @@ std::string Keeping::explain_proof(const std::string &cause, const std::string &
     bool is_known = sscanf(cause.c_str(), "%*s %llu:", &first) == 1;
     bool is_later = sscanf(said.c_str(), "lrup-exact: %*s %llu:", &other) == 1 && other > first;
     if (is_known && (child.ended_with(0) || is_later))
-        return ". It would follow if no clause had been deleted before it";
+        return ". It would follow if no clause had been deleted before it: see lrup-exact's "
+               "--ignore-deletions";
     return is_known && other == first ? ". Nor would it follow if none had been deleted" : "";
 }

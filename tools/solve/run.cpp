@@ -346,7 +346,7 @@ bool Run::await_end(Child &child) {
 void Run::explain_proof(size_t k, const Keeping::Wait &wait_for_end) {
     std::string more = teams[k].told ? keeping.explain_proof(teams[k].cause, inputs.options.solvers[k], wait_for_end) : "";
     teams[k].cause += more;
-    if (!more.empty()) display.tell_more(teams.why_lost(k));
+    if (!more.empty()) display.tell_more(teams[k].command + ":" + more.substr(1));
 }
 
 void Run::end_all() {

@@ -249,6 +249,14 @@ std::string Teams::solver_line(size_t k, int &renamed) const {
                           OPEN_FILES + std::to_string(list[k].proof.write));
 }
 
+// A terminal stops processes of the background that read from it, such as these.
+static bool is_terminal(const char *path) {
+    int file = open_if_possible(path);
+    bool is_it = file >= 0 && isatty(file);
+    if (file >= 0) close(file);
+    return is_it;
+}
+
 // The proof is opened later, by its own process, which may have to wait for a pipe's writer.
 static struct stat look_at_proof(const char *path) {
     struct stat found;
@@ -256,6 +264,8 @@ static struct stat look_at_proof(const char *path) {
     if ((is_standard ? fstat(STDIN_FILENO, &found) : stat(path, &found)) != 0)
         refuse(::title(path) + ": " + error_text());
     if (S_ISDIR(found.st_mode)) refuse(::title(path) + " is a folder");
+    if (S_ISCHR(found.st_mode) && is_terminal(path))
+        refuse(::title(path) + " is a terminal: name a file, or use a pipe");
     return found;
 }
 
