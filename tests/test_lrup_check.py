@@ -12,12 +12,13 @@ import shutil
 import signal
 import subprocess
 import termios
+import threading
 import time
 from pathlib import Path
 from typing import List, Mapping, Optional, Sequence
 
-from harness import (EXAMPLES, FOUR, Row, dimacs, example, generated, needs, parametrized, run,
-                     started, until, want, written)
+from harness import (EXAMPLES, FOUR, Row, dimacs, example, feed, generated, needs, parametrized,
+                     piped, run, started, until, want, written)
 from lrat import lrat_fault
 from proof_forms import read_formula
 from solving import (FOR_TESTS, PROGRAM, SOLVE, TESTED, Answer, check_again, in_environment, marked,
@@ -73,14 +74,9 @@ def of_solver(command: str, name: str, how: str, work: Path) -> None:
     if how == "formula from standard input":
         with formula.open("rb") as file:
             return want_proved(check(["-", proof], stdin=file))
-    pipe = work / "pipe"
-    os.mkfifo(pipe)
-    if os.fork() == 0:
-        with pipe.open("wb") as file:
-            file.write(proof.read_bytes())
-        os._exit(0)
+    pipe = piped(work / "pipe")
+    feed(pipe, [proof.read_bytes()])
     want_proved(check([formula, pipe]))
-    os.wait()
 
 
 def in_rounds(work: Path) -> None:
@@ -247,22 +243,18 @@ def misused(words: Sequence[str], said: str, work: Path) -> None:
 
 def no_writer(work: Path) -> None:
     """With a pipe that has no writer, the run ends after --time."""
-    formula, pipe = written(FOUR, work), work / "pipe"
-    os.mkfifo(pipe)
+    formula, pipe = written(FOUR, work), piped(work / "pipe")
     begun = time.monotonic()
     want_none(check(["--time", "1", formula, pipe]), "time is up")
     want(time.monotonic() - begun < 6, True, "whether it ended in time")
 
 
 def late_writer(work: Path) -> None:
-    formula, pipe = written(FOUR, work), work / "pipe"
-    os.mkfifo(pipe)
-    if os.fork() == 0:
-        time.sleep(1)
-        pipe.write_text("2 0\n0\n")
-        os._exit(0)
+    formula, pipe = written(FOUR, work), piped(work / "pipe")
+    writer = threading.Timer(1, pipe.write_text, ["2 0\n0\n"])
+    writer.daemon = True
+    writer.start()
     want_proved(check([formula, pipe]))
-    os.wait()
 
 
 def by_substitution(work: Path) -> None:
