@@ -29,7 +29,7 @@ WARNINGS := -Wall -Wextra -Wshadow -Wconversion
 # The filter's sources that lrup-solve, lrup-trim and lrup-explain contain, and those that are also
 # in the example solver.
 FILTER := $(filter-out tools/exact/main.c tools/exact/chain.c,$(wildcard tools/exact/*.c))
-SHARED_WITH_SOLVER := $(addprefix tools/exact/,errors.c formula.c lists.c literals.c)
+SHARED_WITH_SOLVER := $(addprefix tools/exact/,errors.c formula.c lists.c literals.c packed.c)
 # The C++ sources of lrup-engines without MPI.
 ALONE := $(filter-out $(wildcard tools/solve/mpi*.cpp),$(wildcard tools/solve/*.cpp))
 # Tests of programs build this first; 'make examples BUILT= PROGRAM=path' tests another program.

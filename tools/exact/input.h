@@ -1,4 +1,5 @@
-// Unverified: reads a file or a pipe. Flushes the output before a read that would block.
+// Unverified: reads a file, which may be compressed, or a pipe. Flushes the output before a read that
+// would block.
 #ifndef INPUT_H
 #define INPUT_H
 
@@ -6,10 +7,13 @@
 #include <stddef.h>
 #include <stdint.h>
 
+#include "packed.h"
+
 enum { LONGEST_STEP = 1 << 28 };        // bytes of a text step; a longer one is refused
 
 typedef struct {
     int file;
+    Unpacking unpacking;
     const char *path;
     bool ended;
     void (*await)(int file);            // NULL, or a function that waits instead of a blocking read

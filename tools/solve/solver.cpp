@@ -15,6 +15,8 @@
 #include <sys/wait.h>
 #include <unistd.h>
 
+#include "../exact/errors.h"
+#include "../exact/packed.h"
 #include "solve.h"
 
 namespace {
@@ -240,11 +242,27 @@ void solver_process(const Engine &engine, const std::string &command,
     _exit(127);
 }
 
-// Copies an existing proof, as if a solver had ended with 20. If the proof can't be read, the first
-// process says why.
+// In a process that copies a proof: which, and what the first process knows of it.
+static EngineStatus *proof_status;
+static std::string proof_name;
+
+// In that process. The first process says why the proof can't be read, and names it.
+static void end_unread(const char *cause) {
+    std::string text = cause, name = proof_name + ": ";
+    if (text.compare(0, name.size(), name) == 0) text.erase(0, name.size());
+    text.copy(proof_status->last_words, LONGEST_CAUSE - 1);
+    _exit(1);
+}
+
+// Copies an existing proof, as if a solver had ended with 20.
 void proof_process(const Engine &engine, const std::string &path) {
     std::vector<char> bytes(1 << 16);
-    int file = open_if_possible(path);
+    proof_status = &engine.shared->engine_statuses[engine.number - 1];
+    proof_name = path;
+    errors_handle(end_unread);
+    Unpacking unpacking = {};
+    bool is_packed = path != "-" && packer_of(path.c_str());
+    int file = is_packed ? unpacking_open(&unpacking, path.c_str()) : open_if_possible(path);
     EngineStatus &status = engine.shared->engine_statuses[engine.number - 1];
     ssize_t count = -1;
     while (file >= 0 && (count = read(file, bytes.data(), bytes.size())) != 0) {
@@ -252,10 +270,8 @@ void proof_process(const Engine &engine, const std::string &path) {
         if (count > 0 && !write_all(engine.proof, bytes.data(), size_t(count))) _exit(1);
         if (count > 0) STORE(status.proof_read, status.proof_read + uint64_t(count));
     }
-    if (count < 0) {
-        error_text().copy(status.last_words, LONGEST_CAUSE - 1);
-        _exit(1);
-    }
+    if (count < 0) end_unread(error_text().c_str());
+    unpacking_end(&unpacking, path.c_str());
     STORE(status.answer, 20);
     _exit(20);
 }

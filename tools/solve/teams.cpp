@@ -10,6 +10,7 @@
 #include <sys/stat.h>
 #include <unistd.h>
 
+#include "../exact/packed.h"
 #include "display.h"
 #include "teams.h"
 
@@ -119,10 +120,14 @@ void Teams::set_here(int first, int count) {
 // Among several proofs: whether the first clause that proof k adds has an identity of stream k.
 bool Teams::is_a_stream(size_t k) const {
     std::string path = inputs.options.solvers[k], head(HEAD, 0), line, second;
-    int file = is_read_again(path) ? ::open(path.c_str(), O_RDONLY | O_CLOEXEC) : -1;
-    ssize_t length = file < 0 ? 0 : read(file, &head[0], HEAD);
+    Unpacking unpacking = {};
+    int file = is_read_again(path) ? unpacking_open(&unpacking, path.c_str()) : -1;
+    size_t length = 0;
+    for (ssize_t count = 1; file >= 0 && count > 0 && length < HEAD; length += size_t(count))
+        count = std::max<ssize_t>(0, read(file, &head[length], HEAD - length));
     if (file >= 0) close(file);
-    std::istringstream lines(head.substr(0, size_t(std::max<ssize_t>(0, length))));
+    unpacking_leave(&unpacking);
+    std::istringstream lines(head.substr(0, length));
     while (std::getline(lines, line)) {
         std::istringstream words(line);
         uint64_t identity = 0;
@@ -298,9 +303,10 @@ void Teams::start_engine(size_t k) {
     std::vector<int> files = { team.proof.write };
     bool is_proof = inputs.options.check;
     if (is_proof) {
-        struct stat found = look_at_proof(inputs.options.solvers[k]);
-        if (S_ISREG(found.st_mode)) team.proof_size = uint64_t(found.st_size);
-        team.command = ::title(inputs.options.solvers[k]);
+        const char *path = inputs.options.solvers[k];
+        struct stat found = look_at_proof(path);
+        if (S_ISREG(found.st_mode) && !packer_of(path)) team.proof_size = uint64_t(found.st_size);
+        team.command = ::title(path);
     } else if (is_solver(k)) team.command = solver_line(k, renamed);
     if (renamed >= 0) files.push_back(renamed);
     team.engine.hands_on = is_solver(k) && !is_proof;

@@ -48,17 +48,6 @@ void file_check(const char *path) {
     close(file_open(path, &length));
 }
 
-// The program that unpacks a file with this name; or NULL.
-static const char *packer_of(const char *path) {
-    size_t length = strlen(path);
-    for (size_t k = 0; k < PACKED_FORMS; k++) {
-        size_t ending = strlen(PACKED[k].ending);
-        if (length > ending && strcmp(path + length - ending, PACKED[k].ending) == 0)
-            return PACKED[k].program;
-    }
-    return NULL;
-}
-
 static int file_without_name(void) {
     char name[LONGEST_PATH];
     const char *folder = getenv("TMPDIR");
@@ -263,8 +252,9 @@ void record_check(const char *folder, const char *formula) {
     int file = file_open(path, &length);
     if (read(file, kept, sizeof kept - 1) < 0) stop("%s: %s", path, strerror(errno));
     close(file);
-    file_check(formula);
-    if (!SHA256_File(formula, found)) stop("%s: %s", formula, strerror(errno));
+    unsigned char *start = file_map(formula, &length);
+    SHA256_Data(start, length, found);
+    file_unmap(start, length);
     if (strncmp(kept + (kept[0] == '\\'), found, sizeof found - 1) != 0)
         stop("%s isn't the formula of %s, or was changed since: its digest isn't the one in %s",
              formula, folder, path);

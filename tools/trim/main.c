@@ -9,6 +9,7 @@
 #include <string.h>
 #include <sys/stat.h>
 
+#include "../exact/packed.h"
 #include "../exact/row.h"
 #include "trim.h"
 
@@ -99,6 +100,14 @@ static void print(const char *text, const char *word) {
     if (!is_plain) putchar('\'');
 }
 
+// lrupd doesn't unpack its formula. Here bash does.
+static void print_formula(const char *path) {
+    const char *program = packer_of(path);
+    if (program) printf(" <(%s -dc", program);
+    print(" ", path);
+    if (program) putchar(')');
+}
+
 // Prints an output's size, and the command that checks the output: in one run, or in rounds if a
 // row is too small.
 static void tell(const Proof *proof, const Output *output, const char *formula) {
@@ -115,12 +124,13 @@ static void tell(const Proof *proof, const Output *output, const char *formula) 
     if (given.assume) print("lrupd --assume ", given.assume);
     else printf("lrupd");
     if (row > MOST_WORDS) {
-        print(" --rounds live ", formula);
+        printf(" --rounds live");
+        print_formula(formula);
         puts(" live/round-1.stream-1; }");
     } else {
         printf(" --lines %llu --room %llu", (unsigned long long)proof->kept,
                (unsigned long long)proof->room);
-        print(" ", formula);
+        print_formula(formula);
         print(" ", output->path);
         putchar('\n');
     }
