@@ -15,10 +15,10 @@ ghost use Rattle.command.specs.internal.Running.{IsCheckResult};
 ghost use Rattle.run_files.specs.Saving.{CreatesCheckpoint};
 
 use crate::course::{CheckedRound, Course, OpenRound, RoundResult};
-use crate::running::{EndedRun, run_streams};
+use crate::running::run_streams;
 use crate::watching::now_if;
 use command_line::{Next, Sizes};
-use portfolio::{Options, Verdict};
+use portfolio::{Checked, Options, Verdict};
 use run_files::{CommandFault, Machine, Viewed, close_checkpoint, create_checkpoint, discard_it};
 use std::alloc::{AllocError, Global};
 use std::borrow::CowStr;
@@ -119,7 +119,7 @@ fn close_round<C: Clock + Sync, F: Machine>(
     course: &Course<'_>,
     number: u64,
     sizes: Sizes,
-    run: EndedRun,
+    run: Checked,
     output: Option<F::Output>,
     files: &mut F,
 ) -> RoundResult
@@ -138,7 +138,7 @@ fn close_round<C: Clock + Sync, F: Machine>(
     ensures number { result.last.number ≡ number }
     ensures sizes { result.last.sizes ≡ sizes }
 {
-    let EndedRun {
+    let Checked {
         reports,
         verdict,
         clauses,

@@ -6,7 +6,7 @@ mod serial;
 mod threads;
 
 pub use run_outcome::{
-    Clauses, Options, Outcome, Pause, RunFault, SerialOutcome, TurnWatch, Verdict, Watch,
+    Checked, Clauses, Options, Outcome, Pause, RunFault, SerialOutcome, Verdict, Watch,
     write_report,
 };
 pub use serial::run_serial;

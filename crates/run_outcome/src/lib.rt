@@ -10,8 +10,8 @@ mod saving;
 mod watch;
 
 pub use options::Options;
-pub use outcome::{Outcome, RunFault, SerialOutcome, Verdict};
+pub use outcome::{Checked, Outcome, RunFault, SerialOutcome, Verdict};
 pub use pause::Pause;
 pub use report_text::write_report;
 pub use saving::Clauses;
-pub use watch::{TurnWatch, Watch};
+pub use watch::Watch;

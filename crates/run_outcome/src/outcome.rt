@@ -2,6 +2,7 @@
 ghost use Rattle.std.specs.Prelude.{◌≡◌};
 ghost use Rattle.run_outcome.specs.Outcomes.{verdict_of};
 
+use crate::saving::Clauses;
 use clause_store::{Pass, Store};
 use lrup_model::{LayoutFault, PlainMap};
 use std::alloc::AllocError;
@@ -108,4 +109,55 @@ pub struct Outcome<R: Drop> {
     pub readers: Vec<R>,
     /// The identities that each stream dropped, in order.
     pub dropped: Vec<DroppedIds>,
+}
+
+/// The results of a run, on one thread or with threads, without the readers.
+#[derive(Drop)]
+pub struct Checked {
+    /// The report of each stream, in order.
+    pub reports: Vec<Report>,
+    /// The verdict of the reports.
+    pub verdict: Verdict,
+    /// The clauses, as the run left them.
+    pub clauses: Clauses,
+    /// The identities that each stream dropped, in order.
+    pub dropped: Vec<DroppedIds>,
+}
+
+impl<R: Drop> SerialOutcome<R> {
+    /// The results without the readers.
+    pub fn into_checked(self) -> Checked
+        ensures { result ≡ record {
+          reports = self.reports;
+          verdict = self.verdict;
+          clauses = Clauses.Plain self.map;
+          dropped = self.dropped;
+        } }
+    {
+        Checked {
+            reports: self.reports,
+            verdict: self.verdict,
+            clauses: Clauses::Plain(self.map),
+            dropped: self.dropped,
+        }
+    }
+}
+
+impl<R: Drop> Outcome<R> {
+    /// The results without the readers.
+    pub fn into_checked(self) -> Checked
+        ensures { result ≡ record {
+          reports = self.reports;
+          verdict = self.verdict;
+          clauses = Clauses.Shared self.store self.passes;
+          dropped = self.dropped;
+        } }
+    {
+        Checked {
+            reports: self.reports,
+            verdict: self.verdict,
+            clauses: Clauses::Shared(self.store, self.passes),
+            dropped: self.dropped,
+        }
+    }
 }

@@ -117,18 +117,19 @@ impl<C: Clock + Drop, S: Sink + Drop> Reporter<C, S> {
 
 /// A gate that reports progress on a sink while a stream is checked: that a hint has been vacant
 /// for a second; about every ten seconds, how many clauses were added; and at the end, the stream's
-/// report. It leaves the waiting to the inner gate. Without a sink it only forwards each call to
-/// the inner gate. So a run has the same type of gate, watched or not, and the checker is compiled
-/// once, with its calls inlined.
+/// report. It leaves the waiting to the inner gate. Without an inner gate nothing waits, as in a run
+/// on one thread, where no other stream would publish meanwhile; then no wait is reported. Without a
+/// sink it only forwards each call to the inner gate. So a run has the same type of gate, watched or
+/// not, and the checker is compiled once, with its calls inlined.
 #[derive(Drop)]
 pub struct Watch<G: Gate + Drop, C: Clock + Drop, S: Sink + Drop> {
-    gate: G,
+    gate: Option<G>,
     reporter: Option<Reporter<C, S>>,
 }
 
 impl<G: Gate + Drop, C: Clock + Drop, S: Sink + Drop> Watch<G, C, S> {
     /// The gate of one stream, before its first line. Without a sink nothing is reported.
-    pub fn new(gate: G, clock: C, sink: Option<S>) -> Watch<G, C, S> {
+    pub fn new(gate: Option<G>, clock: C, sink: Option<S>) -> Watch<G, C, S> {
         Watch {
             gate,
             reporter: Reporter::with_sink(clock, sink),
@@ -139,12 +140,15 @@ impl<G: Gate + Drop, C: Clock + Drop, S: Sink + Drop> Watch<G, C, S> {
 impl<G: Gate + Drop, C: Clock + Drop, S: Sink + Drop> Gate for Watch<G, C, S> {
     #[inline]
     fn before_fetch(&mut self, stream: u64, id: Id, attempt: u64) {
+        let Some(gate) = &mut self.gate else {
+            return;
+        };
         if attempt > 1 {
             if let Some(reporter) = &mut self.reporter {
                 reporter.note_attempt(stream, id, attempt);
             }
         }
-        self.gate.before_fetch(stream, id, attempt);
+        gate.before_fetch(stream, id, attempt);
     }
 
     #[inline]
@@ -152,48 +156,17 @@ impl<G: Gate + Drop, C: Clock + Drop, S: Sink + Drop> Gate for Watch<G, C, S> {
         if let Some(reporter) = &mut self.reporter {
             reporter.count(stream);
         }
-        self.gate.after_publish(stream, id);
-    }
-
-    fn when_finished(&mut self, stream: u64, report: &Report) {
-        if let Some(reporter) = &mut self.reporter {
-            reporter.report_finished(stream, report);
-        }
-        self.gate.when_finished(stream, report);
-    }
-}
-
-/// The gate of a stream in a run on one thread. It never waits, since no other stream would publish
-/// meanwhile. It reports what a `Watch` reports, except for waits: a call before each fetch would
-/// cost some instructions for each hint.
-#[derive(Drop)]
-pub struct TurnWatch<C: Clock + Drop, S: Sink + Drop> {
-    reporter: Option<Reporter<C, S>>,
-}
-
-impl<C: Clock + Drop, S: Sink + Drop> TurnWatch<C, S> {
-    /// The gate of one stream, before its first line. Without a sink nothing is reported.
-    pub fn new(clock: C, sink: Option<S>) -> TurnWatch<C, S> {
-        TurnWatch {
-            reporter: Reporter::with_sink(clock, sink),
-        }
-    }
-}
-
-impl<C: Clock + Drop, S: Sink + Drop> Gate for TurnWatch<C, S> {
-    #[inline]
-    fn before_fetch(&mut self, _stream: u64, _id: Id, _attempt: u64) {}
-
-    #[inline]
-    fn after_publish(&mut self, stream: u64, _id: Id) {
-        if let Some(reporter) = &mut self.reporter {
-            reporter.count(stream);
+        if let Some(gate) = &mut self.gate {
+            gate.after_publish(stream, id);
         }
     }
 
     fn when_finished(&mut self, stream: u64, report: &Report) {
         if let Some(reporter) = &mut self.reporter {
             reporter.report_finished(stream, report);
+        }
+        if let Some(gate) = &mut self.gate {
+            gate.when_finished(stream, report);
         }
     }
 }

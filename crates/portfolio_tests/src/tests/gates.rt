@@ -164,7 +164,7 @@ fn run_watched<T: Machine, R: Source + Send + Drop>(
     let mut gates = Vec::new(rt.alloc());
     for tape in tapes {
         let pen = Some(Pen::new(tape, 0));
-        gates.push(Watch::new(Pause::new(&clock), &clock, pen))?;
+        gates.push(Watch::new(Some(Pause::new(&clock)), &clock, pen))?;
     }
     Ok(run_in(rt, mode, &cube, options, readers, gates)?)
 }

@@ -6,7 +6,7 @@ use super::gates::Notes;
 use super::{Open, counters, report, same};
 use lrup_text::{Sink, WriteFault};
 use portfolio::Verdict::Unknown;
-use portfolio::{TurnWatch, Watch};
+use portfolio::Watch;
 use std::alloc::{AllocError, Global};
 use std::io;
 use std::sync::atomic::{AtomicBool, AtomicU64, Ordering};
@@ -192,11 +192,8 @@ fn reported(
     let clock = Hand::new(0);
     let tape = Tape::new(alloc, 1_000)?;
     let pen = Pen::new(&tape, fails_at);
-    if is_alone {
-        take_steps(&mut TurnWatch::new(&clock, Some(pen)), &clock, steps);
-    } else {
-        take_steps(&mut Watch::new(Open, &clock, Some(pen)), &clock, steps);
-    }
+    let gate = (!is_alone).then_some(Open);
+    take_steps(&mut Watch::new(gate, &clock, Some(pen)), &clock, steps);
     Ok((tape.text(alloc)?, tape.writes()))
 }
 
@@ -337,7 +334,7 @@ fn a_watch_passes_calls_on(rt: HostRuntime) -> Result<(), Fail> {
             alloc: rt.alloc(),
             tape: &calls,
         };
-        let mut watch = Watch::new(notes, &clock, pen);
+        let mut watch = Watch::new(Some(notes), &clock, pen);
         let steps = [Asks(1, 2), Adds(1), Over];
         take_steps(&mut watch, &clock, &steps);
         let wanted = "3 fetches 555 (1)\n3 fetches 555 (2)\n3 publishes 1\n3 is over\n";
