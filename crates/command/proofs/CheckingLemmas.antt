@@ -1,7 +1,7 @@
 -- Facts about the words and the files that follow from what a function has read and run.
-use Rattle.std.proofs.Common.{◌∙◌, ◌≡◌, Bool, Err, IfOk, IfSome, List, Ok, Option, Result, Some, false}
+use Rattle.std.proofs.Common.{◌∙◌, ◌≡◌, Bool, Err, IfErr, IfOk, IfSome, List, Ok, Option, Result, Some, false}
 use Rattle.std.proofs.Common.{inl, inr, refl, rules, subst, sym, ℕ}
-use Rattle.std.specs.Prelude.{◌↔◌}
+use Rattle.std.specs.Prelude.{◌↔◌, IsErrAnd}
 use Rattle.lrup_model.specs.Cube.{CubeValue}
 use Rattle.lrup_model.specs.Formula.{Cnf}
 use Rattle.lrup_model.specs.Layout.{IsFault, IsStream, LayoutValue}
@@ -10,6 +10,7 @@ use Rattle.lrup_text.specs.ReadOut.{SourceView}
 use Rattle.stream_check.specs.Streams.{RunParamsValue}
 use Rattle.checkpoint.specs.Checkpoints.{IsUnsatisfiableText}
 use Rattle.run_outcome.specs.RingStops.{StopsAtRing}
+use Rattle.run_outcome.specs.declared.outcome.Checked.{Checked}
 use Rattle.run_outcome.specs.declared.outcome.RunFault.{RunFault}
 use Rattle.run_outcome.specs.declared.outcome.RunFault.TheVariants as runs
 use Rattle.command_line.specs.CommandLine.{AskFor, IsCommandLineOf}
@@ -20,10 +21,11 @@ use Rattle.run_files.specs.Causes.{HasNoFault, IsLeftUnused, IsRoundStartCause, 
 use Rattle.run_files.specs.FaultSources.{of_run}
 use Rattle.run_files.specs.Files.{AreAssumed, Effects, FilesView, WasRead, WasReadIn}
 use Rattle.run_files.specs.Saving.{IsNotCreated}
+use Rattle.run_files.specs.lemmas.ResultLemmas.{err_given}
 use Rattle.run_files.specs.declared.fault.CommandFault.{CommandFault}
 use Rattle.run_files.specs.declared.fault.CommandFault.TheVariants as faults
 use Rattle.command.specs.Commands.{IsUnsatisfiableTextWith, NameUnsatisfiable, NameUnsatisfiableUnder}
-use Rattle.command.specs.internal.Running.{IsLayoutCause, IsRunCause}
+use Rattle.command.specs.internal.Running.{IsCheckResult, IsLayoutCause, IsRunCause}
 
 -- if P implies Q, `IfOk` with P implies `IfOk` with Q
 pub if_ok : {T E : Type 0} (r : Result T E) (P Q : T → Type 0) → ((t : T) → P t → Q t) → IfOk r P → IfOk r Q
@@ -56,6 +58,29 @@ run_cause view serial f run_params readers result (runs.Spawn stream) is layout 
 run_cause view serial f run_params readers result (runs.Ring stream) is layout spawn ring =
     let stopped = ring stream is in
     (λ fault refused. no_ring stream fault (sym is ∙ (layout fault).1 refused), stopped.0, stopped.1)
+
+-- if the program's fault comes from a run's fault, it has the run's cause
+pub cause_of_run : {T U R : Type 0} (view : SourceView R) (serial : Bool) (f : Cnf) (run_params : RunParamsValue) (readers : List R)
+    (made : Result U CommandFault) (result : Result T RunFault) (fault : RunFault)
+    → IsErrAnd made (λ its. its ≡ of_run fault) → result ≡ Err fault
+    → ((fault : LayoutFault) → (result ≡ Err (runs.Layout fault)) ↔ IsFault run_params.layout fault)
+    → ((stream : ℕ) → result ≡ Err (runs.Spawn stream) → (serial ≡ false) × IsStream run_params.layout stream)
+    → ((stream : ℕ) → result ≡ Err (runs.Ring stream) → (serial ≡ false) × StopsAtRing view f run_params readers stream)
+    → IfErr made (IsRunCause view serial f run_params readers)
+cause_of_run view serial f run_params readers made result fault comes is layout spawn ring =
+    let Cause : CommandFault → Type 0 = IsRunCause view serial f run_params readers in
+    err_given made (λ its. its ≡ of_run fault) Cause (λ its same. subst Cause (sym same)
+    (run_cause view serial f run_params readers result fault is layout spawn ring)) comes
+
+-- the values that the program holds are those of a check's result
+pub as_checked : {R : Type 0} (view : SourceView R) (f : Cnf) (run_params : RunParamsValue) (readers : List R) (serial way : Bool)
+    (run made : Checked) → serial ≡ way → run ≡ made
+    → IsCheckResult view way f run_params readers made.reports.items made.verdict made.clauses made.dropped.items
+    → IsCheckResult view serial f run_params readers run.reports.items run.verdict run.clauses run.dropped.items
+as_checked view f run_params readers serial way run made way_is made_is is =
+    let Is : Bool → Checked → Type 0 = λ way run. IsCheckResult view way f run_params readers run.reports.items run.verdict
+    run.clauses run.dropped.items in
+    subst (λ (way : Bool). Is way run) (sym way_is) (subst (Is way) (sym made_is) is)
 
 -- a run with an outcome has a layout
 pub has_layout : {T : Type 0} (p : LayoutValue) (result : Result T RunFault) (outcome : T) → result ≡ Ok outcome
