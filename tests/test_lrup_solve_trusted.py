@@ -4,6 +4,7 @@ A hostile program gets a wrong answer from each front that lacks such a line, bu
 whole front. Nightly rows leave out each statement without a marked line, and try all those
 programs: there is no wrong answer."""
 import contextlib
+import functools
 import os
 import re
 import resource
@@ -13,11 +14,12 @@ import signal
 import subprocess
 import time
 from pathlib import Path
-from typing import Any, Callable, Dict, Iterator, List, Sequence
+from typing import Any, Callable, Dict, Iterator, List, Sequence, Tuple
 
 import pytest
 
-from harness import ROOT, Row, compiled, parametrized, run, want, written
+from harness import (BUILDS, ROOT, Row, alone, compiled, is_newer, parametrized, run, want,
+                     written)
 from hostile import SATISFIABLE, is_model, program
 from solving import FLAGS, FRONTS_FLAGS, LRUP_SOLVE, PROGRAM, Answer, in_place_of_lrupd
 
@@ -26,6 +28,7 @@ MARK = re.compile(r"// trusted \(([^)]*)\)")
 LINES = (FOLDER / "front.c").read_text().splitlines(keepends=True)
 # The words of each mark, by the number of its line, counting from 0.
 MARKS = {number: found[1] for number, line in enumerate(LINES) for found in MARK.finditer(line)}
+COMPILES = [*FRONTS_FLAGS, "-w", f"-I{FOLDER}", *shlex.split(FLAGS)]
 UNSATISFIABLE, UNDER = "s UNSATISFIABLE", "s UNSATISFIABLE UNDER ASSUMPTIONS"
 # While the front is stopped, lrupd ends, and a line is added after lrupd's last one.
 FORGES = """os.kill(int(front), signal.SIGSTOP)
@@ -200,8 +203,21 @@ OTHER_ATTACKS: Dict[str, Attack] = {
 }
 
 
+@functools.lru_cache(maxsize=None)
+def unchanged() -> Tuple[Path, Path]:
+    """The whole front, alone in its folder, and the supervisor's object. One worker builds both."""
+    place = BUILDS / "unchanged"
+    front, supervisor = place / "bin" / "lrup-solve", place / "supervisor.o"
+    front.parent.mkdir(parents=True, exist_ok=True)
+    with alone(place / "lock"):
+        if not is_newer(front, FOLDER.glob("*.[ch]")):
+            compiled(supervisor, [FOLDER / "supervisor.c"], "-c", *COMPILES)
+            compiled(front, [FOLDER / "front.c", supervisor], *COMPILES)
+    return front, supervisor
+
+
 def front_without(number: int, work: Path) -> Path:
-    """The front without this line; -1: with all lines."""
+    """The front without this line, alone in its folder."""
     return front_of("".join(line for at, line in enumerate(LINES) if at != number), work)
 
 
@@ -210,22 +226,20 @@ def front_of(source: str, work: Path) -> Path:
     folder.mkdir()
     (folder / "front.c").write_text(source)
     (folder / "bin").mkdir()
-    sources = [folder / "front.c", FOLDER / "supervisor.c"]
-    return compiled(folder / "bin" / "lrup-solve", sources, *FRONTS_FLAGS, "-w", f"-I{FOLDER}",
-                    *shlex.split(FLAGS))
+    return compiled(folder / "bin" / "lrup-solve", [folder / "front.c", unchanged()[1]], *COMPILES)
 
 
 def left_out(number: int, name: str, work: Path) -> None:
     for whole in (False, True):
         here = work / ("whole" if whole else "without")
         here.mkdir()
-        found = ATTACKS[name](front_without(-1 if whole else number, here), here)
+        found = ATTACKS[name](unchanged()[0] if whole else front_without(number, here), here)
         want(found, not whole, "a wrong answer of the whole front" if whole
                                else f"a wrong answer without\n{LINES[number]}")
 
 
 def other(name: str, work: Path) -> None:
-    want(OTHER_ATTACKS[name](front_without(-1, work), work), False, "a wrong answer")
+    want(OTHER_ATTACKS[name](unchanged()[0], work), False, "a wrong answer")
 
 
 def named(work: Path) -> None:
