@@ -205,15 +205,20 @@ OTHER_ATTACKS: Dict[str, Attack] = {
 
 @functools.lru_cache(maxsize=None)
 def unchanged() -> Tuple[Path, Path]:
-    """The whole front, alone in its folder, and the supervisor's object. One worker builds both."""
+    """The whole front, and the supervisor's object. One worker builds both."""
     place = BUILDS / "unchanged"
-    front, supervisor = place / "bin" / "lrup-solve", place / "supervisor.o"
-    front.parent.mkdir(parents=True, exist_ok=True)
+    front, supervisor = place / "lrup-solve", place / "supervisor.o"
     with alone(place / "lock"):
         if not is_newer(front, FOLDER.glob("*.[ch]")):
             compiled(supervisor, [FOLDER / "supervisor.c"], "-c", *COMPILES)
             compiled(front, [FOLDER / "front.c", supervisor], *COMPILES)
     return front, supervisor
+
+
+def whole_front(work: Path) -> Path:
+    """A copy of the whole front, alone in its folder: some attacks put other programs beside it."""
+    (work / "bin").mkdir()
+    return Path(shutil.copy(unchanged()[0], work / "bin"))
 
 
 def front_without(number: int, work: Path) -> Path:
@@ -233,13 +238,13 @@ def left_out(number: int, name: str, work: Path) -> None:
     for whole in (False, True):
         here = work / ("whole" if whole else "without")
         here.mkdir()
-        found = ATTACKS[name](unchanged()[0] if whole else front_without(number, here), here)
+        found = ATTACKS[name](whole_front(here) if whole else front_without(number, here), here)
         want(found, not whole, "a wrong answer of the whole front" if whole
                                else f"a wrong answer without\n{LINES[number]}")
 
 
 def other(name: str, work: Path) -> None:
-    want(OTHER_ATTACKS[name](unchanged()[0], work), False, "a wrong answer")
+    want(OTHER_ATTACKS[name](whole_front(work), work), False, "a wrong answer")
 
 
 def named(work: Path) -> None:

@@ -1,6 +1,6 @@
 """Formulas, proofs and streams in xz, gzip and zstd: the tools read them as if they weren't
 compressed, if the file's name has the program's ending. The outputs have to be those for the plain
-files. A file that can't be unpacked is named, and nothing else is said but what the program says."""
+files. A file that can't be unpacked is named; nothing else is said but what the program says."""
 import re
 import shutil
 from pathlib import Path
@@ -34,7 +34,7 @@ def filtered(ending: str, work: Path) -> None:
     proof.write_text("".join(f"{step}\n" for step in steps))
     plain = run([FILTER, formula, proof])
     want((plain.err, plain.status), ("", 0), "what lrup-exact says")
-    want(run([FILTER, packed(formula, ending), packed(proof, ending)]), plain, "lrup-exact's answer")
+    want(run([FILTER, packed(formula, ending), packed(proof, ending)]), plain, "the answer")
 
 
 def of_another(ending: str, work: Path) -> None:
