@@ -14,7 +14,8 @@ def pytest_addoption(parser: pytest.Parser) -> None:
     given.addoption("--program", default=str(harness.BIN / "lrupd"),
                     help="the lrupd that is tested")
     given.addoption("--rt", help="Rattle's command, for the crates' tests if they aren't built")
-    given.addoption("--flags", default="-O2", help="flags for lrup-solve's compilers, such as "
+    given.addoption("--flags", default=harness.USUAL_FLAGS,
+                    help="flags for lrup-solve's compilers, such as "
                     "--flags='-O1 -g -fsanitize=thread'")
     given.addoption("--count", type=int, help="how many random rows, or mutants, a file has")
     given.addoption("--first", type=int, default=0, help="the first mutant of a proof")

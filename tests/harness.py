@@ -41,8 +41,9 @@ TRIM, EXPLAIN = BIN / "lrup-trim", BIN / "lrup-explain"
 SANITIZED = BUILDS / "lrup-exact-sanitized"
 SANITIZED_TRIM = BUILDS / "lrup-trim-sanitized"
 SANITIZED_EXPLAIN = BUILDS / "lrup-explain-sanitized"
+USUAL_FLAGS = "-O2"
 # The options of conftest.py. COUNT is the number of random rows; each file has its own default.
-PROGRAM, FLAGS = "", "-O2"
+PROGRAM, FLAGS = "", USUAL_FLAGS
 COUNT: Optional[int] = None
 FIRST, SEED, MINUTES = 0, 1, 0.0
 RT: Optional[str] = None

@@ -16,13 +16,15 @@ from typing import Any, Callable, Dict, List, Mapping, Optional, Sequence, Tuple
 
 import pytest
 
-from harness import (BUILDS, FLAGS, PROGRAM, ROOT, VERDICTS, Ran, alone, dimacs, is_newer, lacking,
-                     random_clauses, run, until, want, written)
+from harness import (BUILDS, FLAGS, OUT, PROGRAM, ROOT, USUAL_FLAGS, VERDICTS, Ran, alone, dimacs,
+                     is_newer, lacking, random_clauses, run, until, want, written)
 from proof_forms import read_formula
 
 COMPILERS = [os.environ.get(name, "") for name in ("CC", "CXX")]
-BUILD = BUILDS / re.sub(r"\W+", "", "".join(["solve", *COMPILERS, FLAGS]))
-TESTED_BUILD = BUILD.with_name(f"{BUILD.name}-tested")
+# Where `make` builds: the usual place, unless there are --flags; and for tests, with hooks.
+HAS_FLAGS = FLAGS != USUAL_FLAGS
+NAME = re.sub(r"\W+", "", "".join(["solve", *COMPILERS, FLAGS]))
+BUILD, TESTED_BUILD = BUILDS / NAME if HAS_FLAGS else OUT, BUILDS / f"{NAME}-tested"
 SOLVE, TESTED = BUILD / "bin" / "lrup-solve", TESTED_BUILD / "bin" / "lrup-solve"
 EARLY = "elimint=10 probeint=10 subsumeint=10 compactint=10 reduceint=20 rephase=1 rephaseint=20"
 ELIMINATING = "elimint=1 compact=0"
@@ -277,15 +279,16 @@ def is_built(path: Path) -> bool:
 def built(target: str, for_tests: bool) -> None:
     """One worker builds what is out of date, with `make`. If a package is missing, rows are
     skipped."""
-    with alone(BUILD / "lock"):
-        for folder, flags in ((BUILD, FLAGS), (TESTED_BUILD, FLAGS + " -DSOLVE_TESTS -DCHECKED")
-                              )[:1 + for_tests]:
+    usual = [f"OUT={BUILD}", f"CFLAGS={FLAGS}", f"CXXFLAGS={FLAGS}"] if HAS_FLAGS else []
+    flags = f"{FLAGS} -DSOLVE_TESTS -DCHECKED"
+    tested = [f"OUT={TESTED_BUILD}", f"CFLAGS={flags}", f"CXXFLAGS={flags}"]
+    with alone(BUILDS / "solve.lock"):
+        for folder, words in ((BUILD, usual), (TESTED_BUILD, tested))[:1 + for_tests]:
             if is_built(folder / "bin" / ("lrup-engines" if target == "solve"
                                           else "lrup-engines-mpi")):
                 continue
             out, err, status = run(["make", "-s", f"-j{os.cpu_count()}", "-C", ROOT, target,
-                                    f"OUT={folder}", f"CFLAGS={flags}", f"CXXFLAGS={flags}"],
-                                   limit=600)
+                                    *words], limit=600)
             if status and re.search("libcadical-dev|libmd-dev|libopenmpi-dev", out + err):
                 lacking(f"all of lrup-{target}: {(out + err).splitlines()[0]}")
             assert not status and not re.search(r"warning: .*\[-W", err), out + err

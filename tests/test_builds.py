@@ -10,14 +10,15 @@ import shutil
 from pathlib import Path
 from typing import Dict, List, Sequence, Set
 
-from harness import (FILTER, LIMIT, ROOT, Ran, Row, alone, needs, parametrized, run, want, written)
-from solving import BUILD
+from harness import (BUILDS, FILTER, LIMIT, ROOT, Ran, Row, alone, needs, parametrized, run,
+                     sanitized_explain, sanitized_filter, sanitized_trim, want, written)
+from solving import built
 
 C = {"CC": "one-cc", "CFLAGS": "-DFLAG_OF_C", "CPPFLAGS": "-DFLAG_OF_BOTH", "LDFLAGS": "-Lflag",
      "LDLIBS": "-lflag"}
 WORDS = {**C, "CXX": "one-cxx", "CXXFLAGS": "-DFLAG_OF_CXX"}
 # Targets, and the commands that compile and link their C and C++ programs.
-BUILDS = {"exact": ["one-cc"], "trim": ["one-cc"], "solver": ["one-cc"],
+TARGETS = {"exact": ["one-cc"], "trim": ["one-cc"], "solver": ["one-cc"],
           "solve": ["one-cc", "one-cxx"], "solve-mpi": ["one-cc", "one-cxx", "mpicxx"]}
 
 
@@ -42,7 +43,7 @@ def with_flags(target: str, by_environment: bool, work: Path) -> None:
     found = commands(target, *(([], WORDS) if by_environment else (words, env)))
     compilers = {word for line in found for word in line[:2]
                  if "=" not in word and not word.startswith("-")}
-    want(compilers, set(BUILDS[target]), "the compilers")
+    want(compilers, set(TARGETS[target]), "the compilers")
     for line in found:
         is_c, links = line[0] == "one-cc", "-c" not in line
         flags = {word for word in line if word in WORDS.values()} - {"one-cc", "one-cxx"}
@@ -147,10 +148,12 @@ def again(work: Path) -> None:
 
 
 def in_its_build(words: Sequence[object]) -> Ran:
-    """Runs make, without the toolchain, over the build that the tests of lrup-solve use."""
-    with alone(BUILD / "lock"):
-        return run(["make", "-s", "-C", ROOT, "RT=none", f"OUT={BUILD}", "PREFIX=/usr", *words],
-                   limit=2 * LIMIT, env=clean({}))
+    """Runs make, without the toolchain, in a build of its own."""
+    place = BUILDS / "installed"
+    given = [f"OUT={place}", "PREFIX=/usr", "RT=none", "CFLAGS=-O0", "CXXFLAGS=-O0", *words]
+    with alone(place / "lock"):
+        return run(["make", "-s", f"-j{os.cpu_count()}", "-C", ROOT, *given], limit=2 * LIMIT,
+                   env=clean({}))
 
 
 def installed(work: Path) -> None:
@@ -204,10 +207,18 @@ def packaged(work: Path) -> None:
          [], "links that lead nowhere")
 
 
+def for_other_tests(work: Path) -> None:
+    """What other tests run is built now: while lrupd is being proved, they can't run."""
+    built("solve", for_tests=True)
+    for build in (sanitized_filter, sanitized_trim, sanitized_explain):
+        want(build().is_file(), True, f"whether {build.__name__} is there")
+
+
 def rows() -> List[Row]:
-    found: List[Row] = [("compiled again", again), ("installed", installed), ("packaged", packaged),
+    found: List[Row] = [("for other tests", for_other_tests), ("compiled again", again),
+                        ("installed", installed), ("packaged", packaged),
                         ("the front's flags", protected), ("the front, protected", is_protected)]
-    for target in BUILDS:
+    for target in TARGETS:
         found += [(f"{target}, flags of the {'environment' if by else 'command line'}", with_flags,
                    target, by) for by in (True, False)]
         found += [(f"{target}, no flags", usual, target)]

@@ -21,10 +21,10 @@ from typing import IO, Dict, Iterator, List, NamedTuple, Optional, Sequence, Set
 
 import pytest
 
-from harness import (EXACT, FILTER, FOUR, LIMIT, LRUP_CHAIN, PROGRAM, SANITIZE, SANITIZING, Row,
-                     added, dimacs, example, for_tests, generated, lacking, needs, parametrized,
-                     piped, report, run, sanitized_filter, sanitizer, started, until, unwatched,
-                     waiting, want, watched_ends, written)
+from harness import (BUILDS, EXACT, FILTER, FOUR, LIMIT, LRUP_CHAIN, PROGRAM, SANITIZE, SANITIZING,
+                     Row, added, dimacs, example, for_tests, generated, lacking, needs,
+                     parametrized, piped, report, run, sanitized_filter, sanitizer, started, until,
+                     unwatched, waiting, want, watched_ends, written)
 from proof_forms import FORMS, Step, read_formula, read_steps
 from rounds import last
 from solving import in_place_of_lrupd, of_process
@@ -276,7 +276,7 @@ def wrong(form: str, at: int, work: Path) -> None:
 
 @functools.lru_cache(maxsize=None)
 def largest_row() -> Path:
-    return for_tests(FILTER.parent / "exact-largest-row", EXACT.glob("*.c"),
+    return for_tests(BUILDS / "lrup-exact-largest-row", EXACT.glob("*.c"),
                      f"-DMOST_WORDS={WORDS}")
 
 
