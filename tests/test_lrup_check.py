@@ -17,8 +17,8 @@ import time
 from pathlib import Path
 from typing import List, Mapping, Optional, Sequence
 
-from harness import (EXAMPLES, FOUR, Row, dimacs, example, feed, generated, needs, parametrized,
-                     piped, run, started, until, want, written)
+from harness import (EXAMPLES, FOUR, ROOT, Row, dimacs, example, feed, generated, needs,
+                     parametrized, piped, run, started, until, want, written)
 from lrat import lrat_fault
 from proof_forms import read_formula
 from solving import (FOR_TESTS, PROGRAM, SOLVE, TESTED, Answer, check_again, in_environment, marked,
@@ -297,6 +297,9 @@ def help_of(work: Path) -> None:
     want((answer.out.startswith("usage: lrup-check [OPTIONS] FORMULA PROOF"), answer.said,
           answer.status),
          (True, "", 0), "--help")
+    answer = check(["--version"])
+    want((answer.out, answer.said, answer.status),
+         (f"lrup-check {(ROOT / 'VERSION').read_text()}", "", 0), "--version")
 
 
 def anywhere(work: Path) -> None:

@@ -186,7 +186,8 @@ ATTACKS: Dict[str, Attack] = {
     "comments": says(UNSATISFIABLE, "say('s UNSATISFIABLE')"),
     "one line": says(UNSATISFIABLE, "say('c x\\ns UNSATISFIABLE')"), "expected": as_expected,
     "answer": as_expected, "options": unread, "words": unread, "help": helped,
-    "first line": gives("++-"), "values": gives("++-"), "end of values": unfinished, "end": cut,
+    "assignment": gives("++-"), "first line": gives("++-"), "values": gives("++-"),
+    "end of values": unfinished, "end": cut,
     "signal": killed_by_its_status, "status": says(UNSATISFIABLE, FORGED),
     "exit": says(UNSATISFIABLE, FORGED),
     "last line": lambda front, work: UNSATISFIABLE in answer_of(

@@ -7,12 +7,12 @@
 // No other process can bring about a wrong answer. The front opens the formula before it starts
 // anything, and gives lrupd that open file. It starts lrupd and the probe itself, and collects the
 // exit status of each through a pidfd, opened while only the front can wait for that child. Process
-// ids are never compared, and orphans go to the supervisor. lrupd starts once, and only its own exit
-// status sets `verdict`, in one place. No other process gets the front's standard output. From
+// ids are never compared, and orphans go to the supervisor. lrupd starts once, and only its own
+// exit status sets `verdict`, in one place. No other process gets the front's standard output. From
 // lrup-engines the front prints only comments, in ASCII, and an assignment that satisfies each
 // clause. Lines on which this rests are marked `trusted`; others can at worst prevent an answer.
-// Other processes mustn't trace the front or lrupd, replace lrupd, or write to the formula's file or
-// the user's output (docs/SECURITY.md).
+// Other processes mustn't trace the front or lrupd, replace lrupd, or write to the formula's file
+// or the user's output (docs/SECURITY.md).
 //
 // The front reads all words of its command line, and refuses wrong ones, before it starts anything.
 // lrup-engines gets the same words, and checks values that only it uses. It also gets a line for
@@ -66,7 +66,6 @@ static const char HELP[] =
 static const char HELP_OF_CHECK[] =
 #include "lrup-check.help.h"
     ;
-static const char VERSION_LINE[] = "lrup-solve " VERSION "\n";     // VERSION comes from make
 
 // What was given last, by its code: "" for an option without a value, NULL if it wasn't given.
 static const char *given[CODES];
@@ -162,7 +161,8 @@ static void read_words(int count, char **words) {
 // Prints the help, or the version, in place of an answer.
 static void show(void) {
     if (given[EXPECT]) errx(1, "--expect, but nothing is solved");      // trusted (help)
-    printf("%s", given[SHOW_HELP] ? is_check ? HELP_OF_CHECK : HELP : VERSION_LINE);
+    if (given[SHOW_HELP]) printf("%s", is_check ? HELP_OF_CHECK : HELP);
+    else printf("%s %s\n", is_check ? "lrup-check" : "lrup-solve", VERSION);
     if (fflush(stdout) != 0) err(1, "cannot write to standard output");
     exit(0);
 }
@@ -418,7 +418,7 @@ static bool read_line(void) {
     if (strncmp(line, "v ", 2) == 0) take_signs(line + 2);
     if (strcmp(line, "model") == 0) is_whole = true;
     if (strcmp(line, "refused") == 0) has_refused = true;
-    if (strcmp(line, "busy") == 0 && verdict && !ended_by)
+    if (strcmp(line, "busy") == 0 && verdict && given[CORE_OR_LRAT] && !ended_by)
         state_ends = least(run_ends, now()) + GRACE;
     if (strncmp(line, "c ", 2) != 0) return true;           // trusted (comments): nothing else
     for (char *at = line; *at != 0; at++)
@@ -534,8 +534,8 @@ static int answer(void) {
     if (assume && is_satisfied) is_satisfied = satisfies(assume, false);        // trusted (assumed)
     bool is_answer = is_satisfied || verdict;
     const char *line = is_satisfied ? "s SATISFIABLE" : verdict ? verdict : "s UNKNOWN";
-    if (is_satisfied) print_assignment();
-    else if (is_answer || !has_refused) puts(line);
+    if (is_satisfied) print_assignment();                   // trusted (assignment)
+    if (!is_satisfied && (verdict || !has_refused)) puts(line);
     if (fflush(stdout) != 0 || ferror(stdout)) err(1, "cannot write the answer");  // trusted (end)
     if (ended_by != 0) raise(ended_by);
     if (has_refused && !is_answer) return 1;
