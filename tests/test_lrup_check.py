@@ -193,11 +193,11 @@ def ended(number: signal.Signals, work: Path) -> None:
     mark, pipe = marked(work), work / "pipe"
     os.mkfifo(pipe)
     with started([SOLVE.with_name("lrup-check"), "--lrupd", PROGRAM, written(FOUR, work), pipe],
-                 stdout=subprocess.PIPE, text=True) as running:
+                 stdout=subprocess.PIPE, stderr=subprocess.PIPE, text=True) as running:
         until("it runs", lambda: len(processes_of(mark)) >= 6)
         running.send_signal(number)
-        out = running.communicate(timeout=20)[0]
-    want((running.returncode, out.splitlines()[-1:]), (-number, ["s UNKNOWN"]),
+        out, said = running.communicate(timeout=20)
+    want((running.returncode, out.splitlines()[-1:], said), (-number, ["s UNKNOWN"], ""),
          f"the status, and the last line of\n{out}")
     none_left(mark)
 

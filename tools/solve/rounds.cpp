@@ -203,8 +203,7 @@ done
 made='' inside='' checker='' writers=''
 end() {
     trap '' HUP INT QUIT PIPE TERM
-    kill -KILL $checker $writers 2> /dev/null
-    wait 2> /dev/null
+    { kill -KILL $checker $writers; wait; } 2> /dev/null
     [ -z "$inside" ] || find . -name 'round-*' -exec rm -f {} +
     [ -z "$made" ] || { cd / && rmdir -- "$made"; }
 }
