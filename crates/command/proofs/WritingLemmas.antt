@@ -11,7 +11,6 @@ use Rattle.checkpoint.specs.declared.saving.SaveFault.{SaveFault}
 use Rattle.run_outcome.specs.ReportText.{report_text}
 use Rattle.run_outcome.specs.declared.outcome.Verdict.{Verdict}
 use Rattle.run_files.specs.Faults.{error_text, round_error_text}
-use Rattle.run_files.specs.declared.fault.CommandFault.{CommandFault}
 use Rattle.run_files.specs.declared.fault.CommandFault.TheVariants as faults
 use Rattle.command.specs.Commands.{SaysOfRound, SinkChange, SinkTook, TakesUnlessFailed}
 use Rattle.command.specs.Rounds.{last_text, round_text}
@@ -86,8 +85,3 @@ last_of_one number reports verdict is = rw (eq-eqb number 1 is) refl
 pub last_of_more : (number : ℕ) (reports : List Report) (verdict : Verdict) → number ≢ 1
     → last_text number reports verdict ≡ round_text number ++ report_text reports verdict
 last_of_more number reports verdict other = rw (ne_eqb number 1 other) refl
-
--- for a fault of round 1, only the fault is reported
-pub first_error : (fault : CommandFault) → round_error_text 1 fault ≡ error_text fault
-first_error (faults.Usage text) = refl
-first_error fault = refl

@@ -79,10 +79,10 @@ pub fn command_with_arguments<
         Err(error) => return ExitCode::from(refuse(error.kind(), err)),
     };
     let Ok(arguments) = after_name(alloc, arguments) else {
-        return ExitCode::from(say(&CommandFault::Memory, err));
+        return ExitCode::from(say(1, &CommandFault::Memory, err));
     };
     let Ok(words) = words_of(alloc, &arguments) else {
-        return ExitCode::from(say(&CommandFault::Memory, err));
+        return ExitCode::from(say(1, &CommandFault::Memory, err));
     };
     let status = command(threads, clock, alloc, &words, files, out, err);
     ExitCode::from(status)
@@ -102,7 +102,7 @@ fn refuse<E: Sink>(kind: io::ErrorKind, err: &mut E) -> u8
     ensures status { result ≡ refusal_status kind }
 {
     match kind {
-        io::ErrorKind::OutOfMemory => say(&CommandFault::Memory, err),
+        io::ErrorKind::OutOfMemory => say(1, &CommandFault::Memory, err),
         _ => say_not_utf8(err),
     }
 }

@@ -9,7 +9,7 @@ ghost use Rattle.lrup_text.specs.Writing.{WritesText};
 ghost use Rattle.command.specs.Commands.{NameUnsatisfiableUnder, SaysOfRound, SinkTook, change, report_status};
 ghost use Rattle.run_files.specs.Asked.{Text, assumed_at};
 ghost use Rattle.run_files.specs.Files.{WasRead, WasReadIn, WasSaved, from_first};
-ghost use Rattle.run_files.specs.Faults.{error_text, round_error_text, status_of};
+ghost use Rattle.run_files.specs.Faults.{round_error_text, status_of};
 ghost use Rattle.stream_check.specs.StreamParams.{max_tries};
 
 use crate::course::CheckedRound;
@@ -107,7 +107,7 @@ pub fn command<T: Threads + Wait + Sync, C: Clock + Sync, F: Machine, O: Sink, E
     entails_onward();
     match read_asked(threads, alloc, words, files) {
         Ok(asked) => check_formula(threads, clock, alloc, asked, files, out, err),
-        Err(fault) => say(&fault, err),
+        Err(fault) => say(1, &fault, err),
     }
 }
 
@@ -149,7 +149,7 @@ pub fn check_formula<T: Threads + Wait + Sync, C: Clock + Sync, F: Machine, O: S
 {
     match begin_and_check(threads, clock, alloc, asked, files) {
         Ok(last) => report(&last, out, err),
-        Err(failed) => say_of_round(failed.round, &failed.fault, err),
+        Err(failed) => say(failed.round, &failed.fault, err),
     }
 }
 
@@ -168,7 +168,7 @@ fn report<O: Sink, E: Sink>(last: &CheckedRound, out: &mut O, err: &mut E) -> u8
     say_unsaved(last.number, last.unsaved, err);
     match write_last(last, out) {
         Ok(()) => written_status(last),
-        Err(WriteFault) => say_next(&CommandFault::Unwritten, err),
+        Err(WriteFault) => say(1, &CommandFault::Unwritten, err),
     }
 }
 
@@ -207,7 +207,7 @@ fn say_unsaved<E: Sink>(round: u64, unsaved: Option<SaveFault>, err: &mut E)
     ensures { SaysOfRound round false unsaved (change E.Sink err.old err.new) }
 {
     if let Some(fault) = unsaved {
-        let _ = say_of_round(round, &CommandFault::NotSaved(fault), err);
+        let _ = say(round, &CommandFault::NotSaved(fault), err);
     }
 }
 
@@ -225,35 +225,17 @@ fn written_status(last: &CheckedRound) -> u8
     }
 }
 
-/// Reports a fault, unless the sink has failed, and returns the status.
-fn say_next<E: Sink>(fault: &CommandFault, err: &mut E) -> u8
+/// Reports a fault of the round with this number (from 1), unless the sink has failed, and returns
+/// its status, even if the message couldn't be written.
+pub fn say<E: Sink>(round: u64, fault: &CommandFault, err: &mut E) -> u8
     ensures failed { E.has_failed err.old ≡ true → err.new ≡ err.old }
     ensures said { E.has_failed err.old ≡ false
-        → SinkTook (change E.Sink err.old err.new) (error_text fault.now) }
+        → SinkTook (change E.Sink err.old err.new) (round_error_text round fault.now) }
     ensures status { result ≡ status_of fault.now }
 {
     if err.failed() {
         return fault.status();
     }
-    say(fault, err)
-}
-
-/// Reports a fault and returns its status, even if the message couldn't be written.
-pub fn say<E: Sink>(fault: &CommandFault, err: &mut E) -> u8
-    requires err { E.has_failed err.old ≡ false }
-    ensures said { SinkTook (change E.Sink err.old err.new) (error_text fault.now) }
-    ensures status { result ≡ status_of fault.now }
-{
-    say_of_round(1, fault, err)
-}
-
-/// Reports a fault of the round with this number (from 1), and returns its status, even if the
-/// message couldn't be written.
-fn say_of_round<E: Sink>(round: u64, fault: &CommandFault, err: &mut E) -> u8
-    requires err { E.has_failed err.old ≡ false }
-    ensures said { SinkTook (change E.Sink err.old err.new) (round_error_text round fault.now) }
-    ensures status { result ≡ status_of fault.now }
-{
     let _ = fault.write(round, err);
     fault.status()
 }

@@ -47,6 +47,6 @@ returns-in-Err-clause-ends g c words first good at = inr (record {
   fault = c.in-Err.failed.fault;
   cause = c.in-Err.ensures.cause words first good at;
   untouched = record { written = search rules; failed = c.requires.out };
-  said = c.say_of_round.ensures.said;
-  status_is = c.say_of_round.ensures.status;
+  said = c.say.ensures.said c.requires.err;
+  status_is = c.say.ensures.status;
 })

@@ -1,13 +1,12 @@
-use Rattle.std.proofs.Common.{ℕ, List, Option, inl, inr, refl, rules, subst, sym}
+use Rattle.std.proofs.Common.{ℕ, List, Option, inl, inr, refl, rules, subst}
 use Rattle.clap.specs.Walk.{texts}
 use Rattle.run_files.specs.Files.{FilesView, WasReadIn, files_view}
-use Rattle.command.specs.Commands.{SinkTook, change}
+use Rattle.command.specs.Commands.{change}
 use Rattle.run_files.specs.Asked.{Text}
 use Rattle.command.specs.Rounds.{ProgramEnds}
 use Rattle.command.proofs.CheckingLemmas.{names_unsatisfiable, names_unsatisfiable_under}
 use Rattle.command.proofs.EntailedLemmas.{all_entailed}
 use Rattle.command.proofs.StatusLemmas.{all_empty, all_saved, all_unwritten}
-use Rattle.command.proofs.WritingLemmas.{first_error}
 use Rattle.command.proofs.program.command.Goals as goal
 
 pub returns-in-Ok-clause-sound : goal.returns-in-Ok-clause-sound
@@ -61,8 +60,7 @@ returns-in-Err-clause-ends g c = inr (record {
   fault = c.in-Err.fault;
   cause = inl (refl, c.in-Err.ensures.cause);
   untouched = record { written = search rules; failed = c.requires.out };
-  said = subst (λ (text : List ℕ). SinkTook (change g.E.Sink c.args.err.now c.say.new.err) text) (sym (first_error c.in-Err.fault))
-      c.say.ensures.said;
+  said = c.say.ensures.said c.requires.err;
   status_is = c.say.ensures.status;
 })
 
