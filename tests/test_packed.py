@@ -34,7 +34,8 @@ def filtered(ending: str, work: Path) -> None:
     proof.write_text("".join(f"{step}\n" for step in steps))
     plain = run([FILTER, formula, proof])
     want((plain.err, plain.status), ("", 0), "what lrup-exact says")
-    want(run([FILTER, packed(formula, ending), packed(proof, ending)]), plain, "the answer")
+    found = run([FILTER, packed(formula, ending), packed(proof, ending)])
+    want(found, plain, "lrup-exact's answer")
 
 
 def of_another(ending: str, work: Path) -> None:

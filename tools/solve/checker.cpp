@@ -102,6 +102,11 @@ void Front::say(const std::string &line) const {
     while (heard >= 0 && write(heard, block.data(), BLOCK) < 0 && errno == EINTR) {}
 }
 
+bool Front::has_unread() const {
+    int bytes = 0;
+    return heard >= 0 && ioctl(heard, FIONREAD, &bytes) == 0 && bytes > 0;
+}
+
 // Whether the probe has exited, not by a signal, with a status other than 3.
 bool Front::has_refused() const {
     return probe.child.ended() && WIFEXITED(probe.child.status) && !probe.child.ended_with(UNKNOWN_STATUS);

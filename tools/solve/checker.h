@@ -101,6 +101,7 @@ struct Front {
     bool is_there() const { return pid != 0; }
     bool is_elsewhere() const { return number != 0; }   // found by words, perhaps on another host
     void say(const std::string &line) const;            // cut if it is too long
+    bool has_unread() const;            // lines that it hasn't read, and so hasn't printed
     void read_on(Checker *checker);                     // reads what it reports
     bool has_refused() const;                           // its probe has refused the formula
     double checking() const;                            // processor time of all lrupds, in seconds

@@ -14,6 +14,7 @@ namespace {
 
 const size_t SIGNS = 4000;      // in a line for the front
 const double SHOWING = 0.2;     // seconds between updates of the progress and of lrupd's lines
+const double REPORTING = 1;     // seconds between lines of JSON
 
 size_t terminal_columns() {
     winsize size = {};
@@ -41,21 +42,19 @@ std::string counted(uint64_t number, const char *what) {
     return grouped(number) + " " + what + (number == 1 ? "" : "s");
 }
 
-static std::string sizes_of_record() {
-    return format("%.1f MB kept, %s MB free", double(bytes_of_record()) / 1e6,
-                  grouped(free_bytes() / 1000000).c_str());
-}
-
 std::string title(const std::string &path) { return path == "-" ? "standard input" : quoted(path); }
 
 // During the run.
 
-void Display::begin() { shows_progress = !inputs.options.quiet && isatty(STDERR_FILENO); }
+void Display::begin() {
+    const Options &options = inputs.options;
+    shows_progress = !options.quiet && !options.reports_progress && isatty(STDERR_FILENO);
+}
 
 bool Display::shows_lines() const { return inputs.options.verbose && !inputs.options.quiet; }
 
 double Display::next_reading() const {
-    return shows_progress ? std::max(started, shown) + SHOWING : INFINITY;
+    return shows_progress ? std::max({ started, shown, told }) + SHOWING : INFINITY;
 }
 
 void Display::show_reading() {
@@ -63,7 +62,7 @@ void Display::show_reading() {
     shown = now();
     std::string name = one_line(title(inputs.options.formula));
     std::string line = format("%.1f s, reading ", shown - started) + name + " ..";
-    fprintf(stderr, "\r%s\33[K", line.substr(0, terminal_columns() - 1).c_str());
+    show_progress(line);
 }
 
 void Display::end_reading() const {
@@ -71,15 +70,27 @@ void Display::end_reading() const {
 }
 
 double Display::next_show() const {
-    return shows_progress || shows_lines() ? shown + SHOWING : INFINITY;
+    double next = shows_progress || shows_lines() ? std::max(shown, told) + SHOWING : INFINITY;
+    return std::min(next, next_report());
+}
+
+double Display::next_report() const {
+    return inputs.options.reports_progress ? reported + REPORTING : INFINITY;
 }
 
 void Display::show() {
+    if (now() >= next_report()) report();
     if (now() < next_show()) return;
-    shown = now();
+    double time = shown = now();
     show_lines();
-    if (shows_progress)
-        fprintf(stderr, "\r%s\33[K", progress().substr(0, terminal_columns() - 1).c_str());
+    if (shows_progress && told < time) show_progress(progress());
+}
+
+// The front prints comments, and doesn't say when it has. So the progress isn't shown again before
+// the front has read them, and some time has passed: a comment begins in the first column.
+void Display::show_progress(const std::string &line) const {
+    if (!front.has_unread())
+        fprintf(stderr, "\r%s\33[K", line.substr(0, terminal_columns() - 1).c_str());
 }
 
 void Display::show_lines() {
@@ -97,6 +108,7 @@ void Display::tell(const std::string &line) const {
     if (inputs.options.quiet) return;
     hide();
     front.say("c " + one_line(line));
+    told = now();
 }
 
 void Display::tell_more(const std::string &line) const {
@@ -118,26 +130,49 @@ double Display::fullness() const {
     return fullest;
 }
 
-std::string Display::progress() const {
-    double time = now() - started;
+// How many clauses lrupd has checked, by how much it has read of this round's streams.
+uint64_t Display::checked() const {
     uint64_t bytes = teams.all(&EngineStatus::bytes), lines = teams.all(&EngineStatus::round_lines),
              read = 0;
     for (size_t k = 0; k < teams.size() && checker.child.pid && !rounds.is_behind(); k++)
         if (uint64_t number = LOAD(teams.engine_status(k).stream))
             read += checker.read_of(number - 1);
     double share = bytes > 0 ? std::min(1.0, double(read) / double(bytes)) : 0;
-    uint64_t checked = rounds.lines_before + uint64_t(share * double(lines));
+    return rounds.lines_before + uint64_t(share * double(lines));
+}
+
+void Display::report() {
+    const Options &options = inputs.options;
+    std::string free = options.proofs ? std::to_string(free_bytes()) : "null";
+    reported = now();
+    fprintf(stderr,
+            "{\"seconds\": %.1f, \"clauses_checked\": %llu, \"round\": %llu, "
+            "\"bytes_behind\": %llu, \"bytes_free\": %s, \"cubes_refuted\": %llu, "
+            "\"cubes\": %zu}\n",
+            reported - started, (unsigned long long)checked(), (unsigned long long)rounds.number,
+            (unsigned long long)teams.all(&EngineStatus::behind), free.c_str(),
+            (unsigned long long)(teams.dealer.refuted + teams.dealer.refuted_elsewhere),
+            inputs.cubes.size());
+}
+
+// What may end a long run comes first, since a narrow terminal shows only the beginning.
+std::string Display::progress() const {
+    double time = now() - started;
     uint64_t conflicts = uint64_t(double(teams.all(&EngineStatus::conflicts)) / time);
     std::string work = inputs.options.check ? proofs_read() : grouped(conflicts) + " conflicts/s";
-    std::string room = inputs.options.proofs ? ", " + sizes_of_record() : "";
-    std::string of_lrupd = grouped(checked) + " checked";
+    std::string free, kept;
+    if (inputs.options.proofs) {
+        free = format("%.1f GB free, ", double(free_bytes()) / 1e9);
+        kept = format(", %.1f MB kept", double(bytes_of_record()) / 1e6);
+    }
+    std::string of_lrupd = grouped(checked()) + " checked";
     if (rounds.checked > 0 && rounds.is_behind())
         of_lrupd = format("lrupd at round %llu", (unsigned long long)rounds.checked);
-    return format("%.1f s, %s, %s, %s kB behind, round %llu at %.0f %%", time,
+    return format("%.1f s, %s%s, %s, %s kB behind, round %llu at %.0f %%", time, free.c_str(),
                   (cubes_to_come() + work).c_str(), of_lrupd.c_str(),
                   grouped(teams.all(&EngineStatus::behind) / 1000).c_str(),
                   (unsigned long long)rounds.number, 100 * fullness()) +
-        room;
+        kept;
 }
 
 // Cubes of the user's file.
@@ -217,11 +252,11 @@ void Display::causes(const std::string &cause) const {
     tell(cause);
 }
 
-// Without --proofs, the record is in the run's temporary folder, for a core and LRAT text.
 void Display::record() const {
-    const Options &options = inputs.options;
-    const char *what = options.record ? "" : ", until a core or LRAT text is written";
-    if (options.proofs) tell(quoted(options.proofs) + ": " + sizes_of_record() + what);
+    const char *folder = inputs.options.record;
+    if (folder)
+        tell(quoted(folder) + format(": %.1f MB kept, %s MB free", double(bytes_of_record()) / 1e6,
+                                     grouped(free_bytes() / 1000000).c_str()));
 }
 
 void Display::summary() const {

@@ -41,7 +41,13 @@ private:
     const Rounds &rounds;
     Checker &checker;
     bool shows_progress = false;
-    double started = now(), shown = 0;
+    double started = now(), reported = started;
+    mutable double shown = 0, told = 0;         // when the last progress and comment were
+
+    void show_progress(const std::string &line) const;
+    void report();                      // a line of JSON
+    double next_report() const;
+    uint64_t checked() const;           // clauses
 
     bool shows_lines() const;
     std::string progress() const;

@@ -20,7 +20,8 @@ const double USUAL_SAVING = 300;        // seconds
 // What was given. If an option is given twice, the last value counts.
 struct {
     bool no_share;
-    const char *engines, *share_size, *seed, *save_every, *time, *memory, *expect, *lrupd, *program;
+    const char *engines, *share_size, *seed, *save_every, *time, *memory, *expect, *lrupd, *program,
+        *progress;
     Texts solvers, files;
 } given;
 
@@ -114,7 +115,7 @@ void read_options(Options &options, int count, char **words) {
         valued("core", options.core), valued("lrat", options.lrat),
         flagged("re-hint", options.rehint), valued("expect", given.expect),
         valued("assume", options.assume), valued("lrupd", given.lrupd),
-        valued("engines", given.program),
+        valued("engines", given.program), valued("progress", given.progress),
         flagged("verbose", options.verbose, 'v'), flagged("quiet", options.quiet, 'q'),
         { "version", 0, nullptr, nullptr, nullptr } };
     list.insert(list.end(), of_engines.begin(), of_engines.end());
@@ -135,6 +136,9 @@ void read_values(Options &options) {
     options.seconds = seconds("--time", given.time, 0);
     options.save_every = seconds("--save-every", given.save_every, USUAL_SAVING);
     if (given.memory) read_memory(options, given.memory);
+    options.reports_progress = given.progress != nullptr;
+    if (given.progress && strcmp(given.progress, "json") != 0)
+        refuse("--progress takes json, not " + quoted(given.progress));
     for (size_t k = 0; k < given.solvers.length; k++)
         options.solvers.push_back(solver_of(given.solvers.items[k]));
 }

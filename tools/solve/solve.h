@@ -37,6 +37,7 @@ struct Options {
     bool rehint = false;        // for core and LRAT text
     bool replace = false;       // even a record with a proof, or with rounds of an unfinished run
     bool verbose = false, quiet = false;
+    bool reports_progress = false;      // as lines of JSON
 
     bool may_be_resumed() const { return record && !check; }
     bool shares() const { return share && size_t(engines) > solvers.size() + 1; }
