@@ -179,8 +179,12 @@ void check_engines(const Options &options) {
 
 }
 
+// The library says sc2021 of 1.5.3 and others, after the competition of that year.
 std::string version() {
-    return std::string(program_name) + " " + VERSION + ", with CaDiCaL " + engine_version();
+    std::string own = engine_version();
+    bool is_number = !own.empty() && own[0] >= '0' && own[0] <= '9';
+    return std::string(program_name) + " " + VERSION + ", with CaDiCaL " +
+        (is_number ? own : "(its library calls itself " + own + ")");
 }
 
 // lrup-check passes --check as the first word.
