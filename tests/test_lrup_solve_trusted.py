@@ -125,6 +125,12 @@ def as_expected(front: Path, work: Path) -> bool:
     return answer_of(front, work, "hears('probe')", ["--expect", "unsat"]).status == 0
 
 
+def unproved(front: Path, work: Path) -> bool:
+    """As lrup-check: nothing is proved, but the status says so."""
+    return run([front, "--check", "--lrupd", PROGRAM, "--engines", program("hears('probe')", work),
+                written(SATISFIABLE, work), os.devnull], limit=60).status == 0
+
+
 def unread(front: Path, work: Path) -> bool:
     """The same, where a front that doesn't read its words finds lrupd and a hostile program in its
     own folder, and the formula on standard input."""
@@ -185,7 +191,7 @@ ATTACKS: Dict[str, Attack] = {
                                    "stream(2, '3 0 1 2 0\\n')\ncheck('2 10 10 0')\nhears('lrupd')"),
     "comments": says(UNSATISFIABLE, "say('s UNSATISFIABLE')"),
     "one line": says(UNSATISFIABLE, "say('c x\\ns UNSATISFIABLE')"), "expected": as_expected,
-    "answer": as_expected, "options": unread, "words": unread, "help": helped,
+    "unproved": unproved, "answer": as_expected, "options": unread, "words": unread, "help": helped,
     "assignment": gives("++-"), "first line": gives("++-"), "values": gives("++-"),
     "end of values": unfinished, "end": cut,
     "signal": killed_by_its_status, "status": says(UNSATISFIABLE, FORGED),
