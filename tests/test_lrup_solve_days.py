@@ -274,7 +274,8 @@ def with_little(chain: Chain, why: str, limited: Callable[[int], Callable[[], No
         kilobytes = 100 * 3 ** min(count, 10)
         answer = chain.killed(1.5 if 0 < count < 5 else None, limited(kilobytes))
         text = answer.out + answer.said
-        if count == 0 or (answer.status == 1 and not answer.said.endswith(" checks it\n")):
+        is_refused = "lrup-solve: " in answer.said and not answer.said.endswith(" checks it\n")
+        if count == 0 or is_refused:
             want(("cannot write " in text, why in text), (True, True),
                  f"whether it says what can't be written in\n{text}")
             want(answer.answers in ([], [UNKNOWN], [ANSWERS[20]]), True,

@@ -13,14 +13,14 @@ import signal
 import subprocess
 import time
 from pathlib import Path
-from typing import Callable, List, Mapping, Optional, Sequence, Tuple
+from typing import Callable, List, Mapping, Optional, Sequence
 
 import pytest
 
 from harness import (COUNT, FOUR, LIMIT, ROOT, TESTS, Ran, Row, compiled, dimacs, generated, needs,
                      parametrized, random_clauses, run, started, until, want, written)
 from records import (CHANGES, UNKNOWN, checkpoints, recorded, saved_rounds, want_no_other,
-                     whole, with_digests)
+                     way_on, whole, with_digests)
 from solving import (ANSWERS, EARLY, PROGRAM, SOLVE, TESTED, Answer, before_lrupd, check_again,
                      children_of, command, end_all, end_group, in_environment, listed, marked,
                      none_left, solve, want_answer)
