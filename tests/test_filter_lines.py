@@ -241,28 +241,29 @@ def refusals_of_frat() -> List[Row]:
 
 
 def refusals_in_binary() -> List[Row]:
-    """Messages name the byte at which the step begins; the first byte has number 1."""
+    """Messages name the step and the byte at which it begins; both count from 1."""
     drat, lrat = ["--format", "binary-drat"], ["--format", "binary-lrat"]
     two, five = b"a" + codes([2]), b"a" + code(5) + codes([2]) + codes([1, 2])
     return [
-        ("binary, another letter", FOUR, two + b"b\0", "byte 4: ", FIRST, drat),
-        ("binary, a variable that isn't there", FOUR, two + b"a" + codes([3]), "byte 4: a variable",
+        ("binary, another letter", FOUR, two + b"b\0", "step 2, byte 4: ", FIRST, drat),
+        ("binary, a variable that isn't there", FOUR, two + b"a" + codes([3]),
+         "step 2, byte 4: a variable", FIRST, drat),
+        ("binary, a zero with a sign", FOUR, two + b"a\1\0", "step 2, byte 4: ", FIRST, drat),
+        ("binary, an end within a number", FOUR, two + b"a\x80", "step 2, byte 4: ", FIRST, drat),
+        ("binary, an end within a clause", FOUR, two + b"a\4", "step 2, byte 4: ", FIRST, drat),
+        ("binary, a number without an end", FOUR, two + b"a" + b"\xff" * 1000, "step 2, byte 4: ",
          FIRST, drat),
-        ("binary, a zero with a sign", FOUR, two + b"a\1\0", "byte 4: ", FIRST, drat),
-        ("binary, an end within a number", FOUR, two + b"a\x80", "byte 4: ", FIRST, drat),
-        ("binary, an end within a clause", FOUR, two + b"a\4", "byte 4: ", FIRST, drat),
-        ("binary, a number without an end", FOUR, two + b"a" + b"\xff" * 1000, "byte 4: ",
-         FIRST, drat),
-        ("binary, a variable beyond 64 bits", FOUR, two + b"a" + codes([(1 << 64) + 1]), "byte 4: ",
-         FIRST, drat),
+        ("binary, a variable beyond 64 bits", FOUR, two + b"a" + codes([(1 << 64) + 1]),
+         "step 2, byte 4: ", FIRST, drat),
         ("binary, a clause that doesn't follow", "p cnf 2 1\n1 2 0\n",
-         b"a" + codes([1, 2]) + b"a" + codes([1]), "byte 5: no conflict", "2 1 2 0 1 0\n", drat),
+         b"a" + codes([1, 2]) + b"a" + codes([1]), "step 2, byte 5: no conflict",
+         "2 1 2 0 1 0\n", drat),
         ("binary LRAT, a negative hint", FOUR, five + b"a" + code(6) + codes([1]) + codes([-3, 4]),
-         "byte 8: a RAT step", FIRST, lrat),
-        ("binary LRAT, an identity twice", FOUR, five + five, "byte 8: the identity 5",
+         "step 2, byte 8: a RAT step", FIRST, lrat),
+        ("binary LRAT, an identity twice", FOUR, five + five, "step 2, byte 8: the identity 5",
          FIRST, lrat),
-        ("binary LRAT, an end before the hints", FOUR, five + b"a" + code(6) + b"\0", "byte 8: ",
-         FIRST, lrat),
+        ("binary LRAT, an end before the hints", FOUR, five + b"a" + code(6) + b"\0",
+         "step 2, byte 8: ", FIRST, lrat),
         ("binary, no step after a deletion", FOUR, b"d" + codes([1, 2]) + b"x\0",
          "--format", "", []),
         ("binary, of which the first bytes say nothing", FOUR,

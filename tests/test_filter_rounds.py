@@ -261,8 +261,8 @@ def wrong(form: str, at: int, work: Path) -> None:
     word, make = FORMS[form]
     formula, steps = read_formula(example("bmc.cnf")), tidied(read_steps(example("bmc.lrup")))
     before = make(formula, steps[:at])
-    place = (f"byte {len(b''.join(before)) + 1}" if form.startswith("binary")
-             else f"line {len(before) + 1}")
+    place = (f"step {len(before) + 1}, byte {len(b''.join(before)) + 1}"
+             if form.startswith("binary") else f"line {len(before) + 1}")
     steps[at:at] = [Step("a", steps[at].identity, [1], [])]
     checked = check(example("bmc.cnf"), b"".join(make(formula, steps)),
                     ["--memory", "48K", "--format", word], work)
@@ -522,7 +522,7 @@ def lrupd_killed(work: Path) -> None:
         said, status, filter_said, filter_status = sides.ends()
     want((said, status, filter_status), ("", -signal.SIGKILL, 1), f"the ends, after\n{filter_said}")
     assert re.fullmatch(rf"lrup-exact: (cannot write the stream: Broken pipe|"
-                        rf"byte \d+: {GONE}d/round-\d+\.stream-1)\n",
+                        rf"step \d+, byte \d+: {GONE}d/round-\d+\.stream-1)\n",
                         filter_said), (f"the filter's message: {filter_said}")
 
 

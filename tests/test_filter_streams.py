@@ -377,9 +377,9 @@ def limits(program: str) -> List[Row]:
              ("{formula}", "yes ''",
               "byte 1: the first 268435456 bytes don't show the form of the proof"),
              ("--format binary-drat {formula}", "(printf a; yes | tr -d '\\n')",
-              "byte 1: a step of more than 33554432 numbers"),
+              "step 1, byte 1: a step of more than 33554432 numbers"),
              ("--format binary-lrat {formula}", "(printf a; yes | tr -d '\\n')",
-              "byte 1: a step of more than 33554432 numbers"),
+              "step 1, byte 1: a step of more than 33554432 numbers"),
              ("/dev/zero", ":",
               "/dev/zero, line 1: no header 'p cnf VARIABLES CLAUSES': not DIMACS CNF"))]
 

@@ -110,8 +110,8 @@ static void lrat_step(Filter *filter, Input *input, int letter, Numbers *list, C
 void binary_run(Filter *filter, Input *input, Form form) {
     Numbers list = {0};
     Coding coding = UNDECIDED;
-    for (;;) {
-        position_set("byte", input_position(input) + 1);
+    for (uint64_t step = 1;; step++) {
+        position_set_step(step, input_position(input) + 1);
         int letter = filter_ends(filter) ? -1 : input_byte(input);
         if (letter < 0) break;
         list.length = 0;

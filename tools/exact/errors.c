@@ -8,7 +8,7 @@
 enum { LONGEST_TEXT = 1 << 14 };        // room for two paths
 
 static const char *position_unit;
-static uint64_t position_number;
+static uint64_t position_number, position_step;      // step 0: not in a step
 
 static void say(const char *cause) {
     fprintf(stderr, "%s\n", cause);
@@ -22,13 +22,22 @@ void errors_handle(void (*handler)(const char *cause)) { told = handler; }
 void position_set(const char *unit, uint64_t number) {
     position_unit = unit;
     position_number = number;
+    position_step = 0;
+}
+
+void position_set_step(uint64_t step, uint64_t byte) {
+    position_set("byte", byte);
+    position_step = step;
 }
 
 _Noreturn void stop(const char *cause, ...) {
     char text[LONGEST_TEXT];
-    int length = position_unit ? snprintf(text, sizeof text, "%s %llu: ", position_unit,
-                                          (unsigned long long)position_number)
-                               : 0;
+    int length = 0;
+    if (position_step)
+        length = snprintf(text, sizeof text, "step %llu, ", (unsigned long long)position_step);
+    if (position_unit)
+        length += snprintf(text + length, sizeof text - (size_t)length, "%s %llu: ", position_unit,
+                           (unsigned long long)position_number);
     va_list rest;
     va_start(rest, cause);
     vsnprintf(text + length, sizeof text - (size_t)length, cause, rest);

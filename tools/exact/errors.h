@@ -13,6 +13,7 @@ extern "C" {
 void errors_handle(void (*handler)(const char *cause));
 // where the proof is being read; NULL: nowhere
 void position_set(const char *unit, uint64_t number);
+void position_set_step(uint64_t step, uint64_t byte);   // of a binary proof; both count from 1
 // the message begins with the position
 _Noreturn void stop(const char *cause, ...) __attribute__((format(printf, 1, 2)));
 _Noreturn void fail(const char *cause, const char *object);  // without the position
