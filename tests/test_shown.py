@@ -312,12 +312,23 @@ def scripts() -> Iterator[Row]:
                                     "file or directory: 'none'"),
             ([domain, "/dev/stdin"], b"(define (problem empty))",
              "DOMAIN, PROBLEM or answer can't be read: ':init'"),
-            (["/dev/stdin", problem], b"(define (domain d) (:predicates (p ?x - t)))",
-             "/dev/stdin: not a domain in PDDL with only STRIPS"),
-            ([problem, domain], b"", f"{problem}: not a domain in PDDL with only STRIPS"),
-            ([domain, domain], b"", f"{domain}: not a problem in PDDL with only STRIPS"),
-            ([domain, "/dev/null"], b"", "/dev/null: not a problem in PDDL with only STRIPS")):
-        yield f"plan.py {words}", refused, plan, [*words, "3"], given, f"plan.py: {cause}", 1
+            *((["/dev/stdin", problem], text, f"/dev/stdin: {what} isn't supported, only STRIPS")
+              for text, what in (
+                  (b"(define (domain d) (:predicates (p ?x - t)))", "PDDL with types"),
+                  (b"(define (domain d) (:requirements :strips :typing))", "PDDL with types"),
+                  (b"(define (domain d) (:types t))", "PDDL with types"),
+                  (b"(define (domain d) (:requirements :equality))", "equality"),
+                  (b"(define (domain d) (:action a :precondition (not (= ?x ?y))))", "equality"),
+                  (b"(define (domain d) (:action a :precondition (or (p) (q))))",
+                   "more than conjunctions"),
+                  (b"(define (domain d) (:action a :effect (forall (?x) (p ?x))))",
+                   "more than conjunctions"),
+                  (b"(define (domain d) (:requirements :adl))", "more than conjunctions"))),
+            ([problem, domain], b"", f"{problem}: not a domain in PDDL"),
+            ([domain, domain], b"", f"{domain}: not a problem in PDDL"),
+            ([domain, "/dev/null"], b"", "/dev/null: not a problem in PDDL")):
+        yield (f"plan.py {words} {given!r}", refused, plan, [*words, "3"], given,
+               f"plan.py: {cause}", 1)
 
 
 def rows() -> List[Row]:

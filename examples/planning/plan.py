@@ -13,12 +13,23 @@ import re
 import sys
 
 
+# What isn't STRIPS, and what it is called.
+UNSUPPORTED = [(r"\s-\s|\(\s*:types\b|:typing\b", "PDDL with types"),
+               (r"\(\s*=\s|:equality\b", "equality"),
+               (r"\(\s*(?:or|imply|forall|exists|when)\b|:(?:adl|conditional-effects"
+                r"|disjunctive-preconditions|quantified-preconditions"
+                r"|existential-preconditions|universal-preconditions)\b", "more than conjunctions")]
+
+
 def read(path, kind):
     """The nested lists of a file (define (domain ..) ..) or (define (problem ..) ..), parsed as
     Python lists."""
     text = re.sub(r";.*", "", open(path, errors="replace").read().lower())
-    if not re.match(rf"\s*\(\s*define\s*\(\s*{kind}\s", text) or re.search(r"\s-\s|\(\s*=\s", text):
-        sys.exit(f"plan.py: {path}: not a {kind} in PDDL with only STRIPS")
+    if not re.match(rf"\s*\(\s*define\s*\(\s*{kind}\s", text):
+        sys.exit(f"plan.py: {path}: not a {kind} in PDDL")
+    for pattern, what in UNSUPPORTED:
+        if re.search(pattern, text):
+            sys.exit(f"plan.py: {path}: {what} isn't supported, only STRIPS")
     lists = re.sub(r"[^\s()]+", lambda word: f"{word[0]!r},",
                    text).replace("(", "[").replace(")", "],")
     return ast.literal_eval(f"[{lists}]")[0]
