@@ -19,8 +19,8 @@ returns-in_default-clause-ends g c =
     let errors = change g.E.Sink c.args.err.now c.say.new.err in
     of_arguments c.args.arguments c.in-Ok.arguments _ c.in-Ok.is refl
     (λ words status. ProgramEnds files words c.args.files.now output errors status) c.say.result _ c.from-in_default.ensures
-    (out_of_memory files _ output errors c.say.result (record { written = search rules; failed = c.requires.out }) (c.say.ensures.said c.requires.err)
-    c.say.ensures.status)
+    (out_of_memory files _ output errors c.say.result (record { written = search rules; failed = c.requires.out })
+    (c.say.ensures.said c.requires.err) c.say.ensures.status)
 
 pub returns-in_default-words_of-clause-ends : goal.returns-in_default-words_of-clause-ends
 returns-in_default-words_of-clause-ends g c =
@@ -30,8 +30,8 @@ returns-in_default-words_of-clause-ends g c =
     let errors = change g.E.Sink c.args.err.now say.new.err in
     of_arguments c.args.arguments c.in-Ok.arguments _ c.in-Ok.is refl
     (λ words status. ProgramEnds files words c.args.files.now output errors status) say.result _ c.from-in_default-words_of.ensures
-    (out_of_memory files _ output errors say.result (record { written = search rules; failed = c.requires.out }) (say.ensures.said c.requires.err)
-    say.ensures.status)
+    (out_of_memory files _ output errors say.result (record { written = search rules; failed = c.requires.out })
+    (say.ensures.said c.requires.err) say.ensures.status)
 
 -- the words are those of the arguments
 same_words : (g : Given.Over) (c : goal.After-drop-arguments-2 g) → texts c.deref-2.result.now ≡ words_after_name c.in-Ok.arguments
