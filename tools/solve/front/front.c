@@ -533,13 +533,12 @@ static int answer(void) {
     if (!is_read) is_satisfied = false;                    // trusted (refused): no accepted formula
     if (is_satisfied && !satisfies(formula, true)) is_satisfied = false;        // trusted (model)
     if (assume && is_satisfied) is_satisfied = satisfies(assume, false);        // trusted (assumed)
-    bool is_answer = is_satisfied || verdict;
     const char *line = is_satisfied ? "s SATISFIABLE" : verdict ? verdict : "s UNKNOWN";
     if (is_satisfied) print_assignment();                   // trusted (assignment)
     if (!is_satisfied && (verdict || !has_refused)) puts(line);
     if (fflush(stdout) != 0 || ferror(stdout)) err(1, "cannot write the answer");  // trusted (end)
     if (ended_by != 0) raise(ended_by);
-    if (has_refused && !is_answer) return 1;
+    if (has_refused && !verdict && !is_satisfied) return 1;
     bool is_expected = expected != NULL && strcmp(line, expected) == 0;
     if (given[EXPECT] && !is_expected)
         warnx("--expect %s, but the answer is %s", given[EXPECT], line);
@@ -547,8 +546,7 @@ static int answer(void) {
     // lrup-check ends as lrupd does, so that only a proved formula gives 0.
     if (is_check && !is_answer) return UNKNOWN;             // trusted (unproved)
     if (is_check && verdict) return children[LRUPD].end.si_status;
-    if (!is_answer) return 0;
-    return verdict ? 20 : 10;
+    return verdict ? 20 : is_satisfied ? 10 : 0;
 }
 
 // From now on these signals are read as they come, unless the caller ignores them, as nohup does.
