@@ -487,13 +487,15 @@ static void await_event(void) {
                               { children[PROBE].handle, POLLIN, 0 },
                               { children[LRUPD].handle, POLLIN, 0 },
                               { signals_held, POLLIN, 0 },
-                              { state == SOLVING ? from_engines[0] : -1, POLLIN, 0 } };
+                              { state == SOLVING ? from_engines[0] : -1, POLLIN, 0 },
+                              { state == SOLVING ? STDOUT_FILENO : -1, 0, 0 } };
     long left = least(state_ends - now(), 60000);
-    int ready = poll(files, CHILDREN + 2, left > 0 ? (int)left : 0);
+    int ready = poll(files, CHILDREN + 3, left > 0 ? (int)left : 0);
     if (ready < 0 && errno != EINTR) err(1, "cannot wait");
     if (ready <= 0) return;
     if (files[CHILDREN].revents != 0) handle_signal();
     if (files[CHILDREN + 1].revents != 0) read_line();
+    if (files[CHILDREN + 2].revents != 0) stop_solving_within(0);   // nobody can read the answer
     for (int which = 0; which < CHILDREN; which++)
         if (files[which].revents != 0) collect_end((enum which)which);
 }
@@ -536,7 +538,12 @@ static int answer(void) {
     const char *line = is_satisfied ? "s SATISFIABLE" : verdict ? verdict : "s UNKNOWN";
     if (is_satisfied) print_assignment();                   // trusted (assignment)
     if (!is_satisfied && (verdict || !has_refused)) puts(line);
-    if (fflush(stdout) != 0 || ferror(stdout)) err(1, "cannot write the answer");  // trusted (end)
+    bool is_printed = fflush(stdout) == 0 && !ferror(stdout);
+    if (!is_printed && errno == EPIPE) {        // nobody reads: ends as other programs do
+        signal(SIGPIPE, SIG_DFL);
+        raise(SIGPIPE);
+    }
+    if (!is_printed) err(1, "cannot write the answer");     // trusted (end)
     if (ended_by != 0) raise(ended_by);
     if (has_refused && !verdict && !is_satisfied) return 1;
     bool is_expected = expected != NULL && strcmp(line, expected) == 0;
