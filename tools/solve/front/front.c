@@ -551,7 +551,7 @@ static int answer(void) {
         warnx("--expect %s, but the answer is %s", given[EXPECT], line);
     if (given[EXPECT]) return is_expected ? 0 : 1;          // trusted (expected)
     // lrup-check ends as lrupd does, so that only a proved formula gives 0.
-    if (is_check && !is_answer) return UNKNOWN;             // trusted (unproved)
+    if (is_check && !verdict && !is_satisfied) return UNKNOWN;        // trusted (unproved)
     if (is_check && verdict) return children[LRUPD].end.si_status;
     return verdict ? 20 : is_satisfied ? 10 : 0;
 }
