@@ -465,7 +465,8 @@ def lrupd_ends(body: str, status: int, awaited: int, work: Path) -> None:
     checked = check(example("bmc.cnf"), proof, ["--memory", "48K", "--format", word],
                     work, lrupd=lrupd)
     want((checked.status, checked.filter_status), (status, 1), "the ends")
-    assert re.fullmatch("lrup-exact: (byte [0-9]+: )?" + gone(awaited), checked.filter_said), (
+    place = "((step [0-9]+, )?byte [0-9]+: )?"
+    assert re.fullmatch(f"lrup-exact: {place}{gone(awaited)}", checked.filter_said), (
         f"wanted '{gone(awaited)}', not\n{checked.filter_said}")
     want(left(work), [], "files that are left")
 

@@ -105,6 +105,14 @@ def streams(order: Sequence[int], work: Path) -> None:
     want_proved(check([example("bmc.cnf"), *(EXAMPLES / BMC[number - 1] for number in order)]))
 
 
+def short_streams(work: Path) -> None:
+    """Streams that cite each other, and that a filter reads whole before it writes anything. One has
+    no empty clause, and the other one needs its lines."""
+    for _ in range(10):
+        paths = [EXAMPLES / f"pigeonhole-two.{number}" for number in (1, 2)]
+        want_proved(check([example("pigeonhole.cnf"), "--time", "60", *paths]))
+
+
 def one_stream(work: Path) -> None:
     want_proved(check([example("bmc.cnf"), EXAMPLES / "bmc.lrup"]))
 
@@ -325,7 +333,8 @@ ROWS: List[Row] = [
       for name in ("bmc.cnf", "random 150 1")),
     *((f"by {how}", of_solver, FORMS[0], "random 150 1", how)
       for how in ("standard input", "formula from standard input", "a pipe")),
-    ("in rounds", in_rounds), ("one stream", one_stream), ("four streams", streams, (1, 2, 3, 4)),
+    ("in rounds", in_rounds), ("one stream", one_stream),
+    ("short streams", short_streams), ("four streams", streams, (1, 2, 3, 4)),
     ("side by side", side_by_side), ("beside an unreadable one", beside_unreadable),
     ("core and LRAT", core_and_lrat), ("assumptions", assumed),
     ("DRUP by hand", by_hand, XOR, "1 0\n0\n"),

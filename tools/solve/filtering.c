@@ -323,7 +323,7 @@ static void end_proof(void) {
         LOAD(engine_status->answer) != 20)
         return;
     propagation_settle(&filter.propagation);
-    if (filter.propagation.conflict == 0) leave("the proof ends without the empty clause");
+    if (filter.propagation.conflict == 0) end("the proof ends without the empty clause");
     filter_add(&filter, &(Addition){0});
 }
 
