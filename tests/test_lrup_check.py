@@ -106,8 +106,8 @@ def streams(order: Sequence[int], work: Path) -> None:
 
 
 def short_streams(work: Path) -> None:
-    """Streams that cite each other, and that a filter reads whole before it writes anything. One has
-    no empty clause, and the other one needs its lines."""
+    """Streams that cite each other, and that a filter reads whole before it writes anything. One
+    has no empty clause, and the other one needs its lines."""
     for _ in range(10):
         paths = [EXAMPLES / f"pigeonhole-two.{number}" for number in (1, 2)]
         want_proved(check([example("pigeonhole.cnf"), "--time", "60", *paths]))
