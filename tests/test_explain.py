@@ -30,7 +30,7 @@ PAGE = ROOT / "docs" / "lrup-explain.1"
 BAD = 3         # the status if a line is bad
 # The sources that the example solver shares with the filter.
 LIBRARY = [ROOT / "tools" / "exact" / name
-           for name in ("errors.c", "formula.c", "lists.c", "literals.c")]
+           for name in ("errors.c", "formula.c", "lists.c", "literals.c", "packed.c")]
 QUICK = 4       # one run in four uses the build for tests
 TRIES = 20000   # so that waiting for a clause that never comes takes a second
 
