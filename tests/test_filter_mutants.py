@@ -20,10 +20,9 @@ import subprocess
 from pathlib import Path
 from typing import Any, Callable, Iterator, List, Optional, Sequence, Tuple
 
-from harness import (BUILDS, COUNT, EXACT, FIRST, PROGRAM, SANITIZE, SANITIZED, SANITIZING,
-                     SMALL_ROW, TESTS, Ran, Row, enough_for, example, feed, for_tests, lacking,
-                     parametrized, piped, run, sanitized_filter, sanitizer, started, text_of,
-                     written)
+from harness import (BUILDS, COUNT, EXACT, FIRST, PROGRAM, SANITIZE, SANITIZING, SMALL_ROW, TESTS,
+                     Ran, Row, enough_for, example, feed, for_tests, lacking, parametrized, piped,
+                     run, sanitized_filter, sanitizer, started, text_of, written)
 from proof_forms import FORMS, Clause, Step, frat, read_formula, read_steps, varint
 
 KEPT, FORKING = BUILDS / "mutants", BUILDS / "lrup-exact-forking"

@@ -278,11 +278,11 @@ def formula_of_a_round(work: Path) -> None:
 
 
 def unkept(work: Path) -> None:
-    """The report can't be kept: the answer is still printed."""
+    """The report can't be kept: the answer is still printed, and the status is the answer's."""
     kept = work / "kept"
     path = before_lrupd(f"mkdir {kept}/report", work)
     answer = solve(["--lrupd", path, "--proofs", kept, example("bmc.cnf")])
-    want((answer.answers, answer.status, answer.said), (["s UNSATISFIABLE"], 1,
+    want((answer.answers, answer.status, answer.said), (["s UNSATISFIABLE"], 20,
          f"lrup-solve: cannot write {kept}/report: File exists\n"), "the answer")
     found = [name for name in os.listdir(kept) if not name.startswith("round-1.")]
     want(sorted(found), ["files", "formula.sha256", "report"], "the files")
