@@ -353,12 +353,14 @@ def closed(formula: str, work: Path) -> None:
     want((done.status, done.err.count("\n")), (1, 1), f"the message: {done.err}")
 
 
-def reader_left(work: Path) -> None:
+def reader_left(name: str, work: Path) -> None:
+    """If nobody can read the answer, the run soon ends without a message, as other programs do."""
     reader, writer = os.pipe()
     os.close(reader)
-    answer = solve([example("bmc.cnf")], stdout=writer)
+    formula = example(name) if name.endswith(".cnf") else generated(name, work)
+    answer = solve([formula], stdout=writer, limit=60)
     os.close(writer)
-    want((answer.status, answer.said.count("\n")), (1, 1), f"the message: {answer.said}")
+    want((answer.status, answer.said), (-signal.SIGPIPE, ""), "the end")
 
 
 def read_terminal(leader: int) -> bytes:
@@ -482,7 +484,7 @@ def miter(name: str, change: Optional[Tuple[str, str]], status: int, work: Path)
     answer = solve([formula])
     want_answer(answer, status, formula)
     if status == 10:
-        said = run([MITERS / "show.awk", formula, "-"], answer.out).out
+        said = run([EXAMPLES / "show.awk", formula, "-"], answer.out).out
         one, other = (line.split(" = ")[1] for line in said.splitlines() if "." in line)
         want(one == other, False, f"whether the outputs are the same, which are\n{said}")
 
@@ -498,7 +500,7 @@ def undefined(one: str, other: str, status: int, work: Path) -> None:
     answer = solve([formula])
     want_answer(answer, status, formula)
     if status == 10:
-        said = run([MITERS / "show.awk", formula, "-"], answer.out).out
+        said = run([EXAMPLES / "show.awk", formula, "-"], answer.out).out
         names = sorted(line.split(" = ")[0] for line in said.splitlines())
         want(names, ["a", "one.z", "other.z"], f"the names in\n{said}")
 
@@ -596,7 +598,8 @@ def what_happens() -> List[Row]:
         ("a full disk for the answer", full, [], "/dev/full", 0, "cannot write the answer"),
         ("a closed output", closed, "bmc.cnf"),
         ("a closed output, satisfiable", closed, "assumed.cnf"),
-        ("a reader that left", reader_left), ("no progress", progress, ["-q"], False, 80)]
+        ("a reader that left", reader_left, "bmc.cnf"),
+        ("a reader that left, pigeons 11", reader_left, "pigeons 11"), ("no progress", progress, ["-q"], False, 80)]
     runs += [(f"progress {words} {columns}", progress, words, True, columns)
              for words in ([], ["-v"]) for columns in (0, 30, 120)]
     runs += [(f"signal {number}, ignored", ignored, number)
