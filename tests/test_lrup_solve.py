@@ -599,7 +599,8 @@ def what_happens() -> List[Row]:
         ("a closed output", closed, "bmc.cnf"),
         ("a closed output, satisfiable", closed, "assumed.cnf"),
         ("a reader that left", reader_left, "bmc.cnf"),
-        ("a reader that left, pigeons 11", reader_left, "pigeons 11"), ("no progress", progress, ["-q"], False, 80)]
+        ("a reader that left, pigeons 11", reader_left, "pigeons 11"),
+        ("no progress", progress, ["-q"], False, 80)]
     runs += [(f"progress {words} {columns}", progress, words, True, columns)
              for words in ([], ["-v"]) for columns in (0, 30, 120)]
     runs += [(f"signal {number}, ignored", ignored, number)
