@@ -232,6 +232,15 @@ class Run:
         while self.todo or self.running:
             self.start_ready(AT_ONCE, 0, self.todo)
             self.wait()
+        self.find_links()
+
+    def find_links(self) -> None:
+        """The next `rt ci` would refuse a link that a test has left in the tree."""
+        words = ["find", ".", "-path", "./.git", "-prune", "-o", "-type", "l", "-print"]
+        links = subprocess.run(words, cwd=ROOT, capture_output=True, text=True, check=True).stdout
+        if links:
+            self.failed += 1
+            self.say(f"links in the tree, which rt refuses:\n{links.rstrip()}")
 
     def start_ready(self, most: int, nice: int, names: Sequence[str]) -> None:
         """Starts tests with these names, so that at most this many files run at once."""
