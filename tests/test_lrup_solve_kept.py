@@ -353,6 +353,8 @@ def packed(forms: Sequence[str], tested: Optional[Dict[str, object]], work: Path
     found = run(["sh", "d/command"], cwd=work, env=only_with(["sha256sum"], work))
     want((found.err, found.status), (said, 1), "the message if it can't be unpacked")
     first.write_bytes(first.read_bytes()[:first.stat().st_size // 2])
+    command = work / "d" / "command"
+    command.write_text(command.read_text().replace("--tries 1000000", "--tries 20000"))   # a second
     found = run(["sh", "d/command"], cwd=work, env={**os.environ, "TMPDIR": str(files)})
     want((found.err != "", os.listdir(files)), (True, []),
          f"whether there is a message on the truncated one, in {found.out}")
