@@ -14,7 +14,7 @@ import subprocess
 from pathlib import Path
 from typing import Dict, List, Mapping, Sequence
 
-from harness import (EXAMPLES, FOUR, LIMIT, TESTS, Row, compiled, dimacs, example, generated, needs,
+from harness import (FOUR, LIMIT, SOLVER, TESTS, Row, compiled, dimacs, example, generated, needs,
                      parametrized, run, started, until, want, written)
 from solving import (FOR_TESTS, PROGRAM, SOLVE, check_again, marked, none_left, of_process,
                      processes_of, random_formula, solve, want_answer)
@@ -45,11 +45,7 @@ def by(commands: Sequence[str]) -> List[str]:
 
 def example_solver(work: Path) -> str:
     """The command of the example solver, which writes LRUP text with hints."""
-    exact = EXAMPLES.parent / "tools" / "exact"
-    sources = [*sorted((EXAMPLES / "solver").glob("*.c")),
-               *(exact / f"{name}.c" for name in ("errors", "formula", "lists", "literals"))]
-    program = compiled(work / "example solver", sources, "-std=c11", "-O2", "-pthread",
-                       "-I", str(exact))
+    program = shutil.copy(SOLVER, work / "example solver")
     return f"{shlex.quote(str(program))} %formula %proof"
 
 
@@ -436,7 +432,8 @@ def rows() -> List[Row]:
               for number in (signal.SIGTERM, signal.SIGKILL)]
     need = "--solver takes a command with both %formula and %proof, not "
     found += [(f"refused {words}", refused, words, cause) for words, cause in (
-        (["--solver", "cadical"], need + "cadical"), (["--solver", ""], need + "''"),
+        (["--solver", "cadical"], need + "cadical"),
+        (["--solver", ""], "--solver takes a value, not ''"),
         (["--solver=cadical %formula"], need + "'cadical %formula'"),
         (["--solver", "cadical %proof"], need + "'cadical %proof'"),
         (["--solver", CADICAL, "--assume", "{cube}"],
