@@ -9,9 +9,10 @@ meanwhile the library's out/ is there, too. Crates with the longest path to the 
 come first, and the others get a smaller share of the cores. After an interruption, the next build
 keeps what was proved. At the end `rt run` proves and runs the program, and a copy of it is put
 at PLACE. rt recognizes proved libraries by checksums, and proves all others again, so no proof
-depends on this script."""
+depends on this script. Beside the copy a file says from which sources and by which rt it was proved
+and built: as long as these stay the same, there is nothing to do."""
 import fcntl
-import filecmp
+import hashlib
 import os
 import re
 import resource
@@ -223,18 +224,45 @@ def prove_program(rt, were_libraries):
     return ran.returncode, ran.stdout
 
 
-def put_program(place):
-    """Copies the program to its place, where it may be running, unless it is there."""
-    built = CRATES / PROGRAM / "out" / PROGRAM
-    if not place.is_file() or not filecmp.cmp(built, place, shallow=False):
-        place.parent.mkdir(parents=True, exist_ok=True)
-        shutil.copy2(built, f"{place}.new")
-        os.replace(f"{place}.new", place)
+def sum_of_sources(rt):
+    """A checksum of all that the program is proved and built from, and of rt's version."""
+    found = hashlib.sha256(subprocess.run([rt, "version"], stdout=subprocess.PIPE).stdout)
+    parts = [CRATES / name / part for name in sorted(ALL) for part in PARTS]
+    files = sorted(file for part in parts for file in part.rglob("*") if file.is_file())
+    for file in [ROOT / "crates.txt", ROOT / "HANDLES", *files]:
+        text = file.read_bytes()
+        found.update(f"{file.relative_to(ROOT)} {len(text)}\n".encode() + text)
+    return found.hexdigest()
+
+
+def words_of(sources, place):
+    return f"{sources} {hashlib.sha256(place.read_bytes()).hexdigest()}\n"
+
+
+def is_proved(sources, place):
+    """Whether the program there was proved and built from these sources."""
+    said = place.with_suffix(".proved")
+    return place.is_file() and said.is_file() and said.read_text() == words_of(sources, place)
+
+
+def put_program(rt, sources, place):
+    """Copies the program to its place, where it may be running. It was proved and built since the
+    sources had this checksum; if they have changed meanwhile, nothing is said of them."""
+    built, said = CRATES / PROGRAM / "out" / PROGRAM, place.with_suffix(".proved")
+    place.parent.mkdir(parents=True, exist_ok=True)
+    said.unlink(missing_ok=True)
+    shutil.copy2(built, f"{place}.new")
+    os.replace(f"{place}.new", place)
+    if sum_of_sources(rt) == sources:
+        said.write_text(words_of(sources, place))
 
 
 def main():
     signal.signal(signal.SIGTERM, lambda *_: sys.exit(143))
     rt, place = sys.argv[1], ROOT / sys.argv[2]
+    sources = sum_of_sources(rt)
+    if is_proved(sources, place):
+        return
     young = {name for name in ALL - {PROGRAM} if is_young(name)}
     status, said = prove_libraries(rt, set(young))
     if not status:
@@ -243,7 +271,7 @@ def main():
     LOG.write_text(said)
     if status:
         sys.exit(re.sub(r".*: proved\n", "", said))
-    put_program(place)
+    put_program(rt, sources, place)
 
 
 if __name__ == "__main__":

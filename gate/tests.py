@@ -217,6 +217,7 @@ class Run:
             while self.running:
                 self.wait()
         proof: Optional[Step] = None
+        sources = build.sum_of_sources(options.rt) if options.after == "ci" else ""
         if options.after == "build":
             words = [sys.executable, "gate/build.py", options.rt, options.program]
             proof = self.start("build", words, sum(self.proving().values()))
@@ -228,7 +229,7 @@ class Run:
         if proof and proof.status:
             self.todo = []
         elif options.after == "ci":
-            build.put_program(ROOT / options.program)
+            build.put_program(options.rt, sources, ROOT / options.program)
         while self.todo or self.running:
             self.start_ready(AT_ONCE, 0, self.todo)
             self.wait()

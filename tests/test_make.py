@@ -1,9 +1,9 @@
 """Targets of make, one after the other, as a person types them.
 
-Each chain runs in a copy of the repository, with the programs and proofs that are here: its last
-target has the right status, the proved program stays, and no link is left, since rt refuses links.
-In most chains a script stands for rt. Chains that prove the program need --rt, and the proofs that
-`make build` or `rt ci` has left."""
+Each chain runs in a copy of the repository, with the programs that are here: its last target has
+the right status, the proved program stays, and no link is left, since rt refuses links. In most
+chains a script stands for rt. The others need --rt, and the program that `make build` or `make
+gate` has proved here: then nothing is proved again."""
 import os
 import re
 import shutil
@@ -39,27 +39,18 @@ def clean() -> Dict[str, str]:
             if name not in ("MAKEFLAGS", "MAKELEVEL", "MFLAGS", "CI")}
 
 
-def linked(source: str, target: str) -> None:
-    """A second name for a file of a proof: rt replaces such files, and changes none."""
-    try:
-        os.link(source, target)
-    except OSError:
-        shutil.copy2(source, target)
-
-
-def copied(work: Path, proofs: bool) -> Path:
+def copied(work: Path, is_proved: bool) -> Path:
     """A copy of the repository's files and of what `make` has built."""
     tree = work / "tree"
     listed = run(["git", "ls-files", "-z", "--cached", "--others", "--exclude-standard"], cwd=ROOT)
-    for name in listed.out.split("\0"):
-        if (ROOT / name).is_file():
-            (tree / name).parent.mkdir(parents=True, exist_ok=True)
-            shutil.copy2(ROOT / name, tree / name)
+    names = [name for name in listed.out.split("\0") if (ROOT / name).is_file()]
+    for name in [*names, *[PROVED] * is_proved]:
+        (tree / name).parent.mkdir(parents=True, exist_ok=True)
+        shutil.copy2(ROOT / name, tree / name)
     for folder in (BIN, OUT / "objects"):
         shutil.copytree(folder, tree / folder.relative_to(ROOT))
-    if proofs:
-        for folder in ROOT.glob("crates/*/out"):
-            shutil.copytree(folder, tree / folder.relative_to(ROOT), copy_function=linked)
+    if not is_proved:
+        (tree / "out/bin/lrupd.proved").unlink(missing_ok=True)
     run(["git", "init", "-q", tree])
     return tree
 
