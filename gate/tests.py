@@ -173,7 +173,7 @@ class Run:
             if not failed and step.status not in (0, NO_ROWS):
                 failed = 1
         elif failed and "CI" not in os.environ:
-            lacks = re.findall(r"^(make .* need.* package .*)", text, re.M)
+            lacks = re.findall(r"^(.* needs? .* package .*)", text, re.M)
             self.skipped.update(lacks)
             failed = int(not lacks)
         self.passed += passed
@@ -210,10 +210,8 @@ class Run:
     def everything(self) -> None:
         options = self.options
         if options.after:
-            if not options.names:
-                self.start("pages", ["make", "-s", "pages"])
-                self.start("warnings", ["make", "-s", "warnings"])
-            self.start("tools", ["make", "-s", "-k", f"-j{CORES}", "tools"])
+            checks = [] if options.names else ["warnings", "pages"]
+            self.start("tools", ["make", "-s", "-k", f"-j{CORES}", "tools", *checks])
             while self.running:
                 self.wait()
         proof: Optional[Step] = None
