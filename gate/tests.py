@@ -60,7 +60,7 @@ class Step:
                  is_tests: bool = False) -> None:
         self.name, self.reckoned, self.is_tests = name, reckoned, is_tests
         self.began, self.used = time.monotonic(), 0
-        self.said = tempfile.TemporaryFile("w+", errors="replace")
+        self.said = tempfile.TemporaryFile()
         self.status: Optional[int] = None
         self.shown = 0      # the characters of its output that show_lines has looked at
         self.process = subprocess.Popen(
@@ -69,8 +69,9 @@ class Step:
             env={**os.environ, "PYTHONUNBUFFERED": "1"})
 
     def output(self) -> str:
-        self.said.seek(0)
-        return self.said.read()
+        """What it has printed; the place at which it writes on is left alone."""
+        file = self.said.fileno()
+        return os.pread(file, os.fstat(file).st_size, 0).decode(errors="replace")
 
     def has_ended(self) -> bool:
         if self.status is None:
