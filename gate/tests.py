@@ -4,14 +4,14 @@
     python3 gate/tests.py --program LRUPD [--after build | --after ci] [NAME..] [-- OPTION..]
 
 NAME is a file tests/test_NAME.py without 'test_' and '.py'; without names all are run. Each has a
-pytest of its own, which gets the OPTIONs; the longest, by gate/seconds.txt, begin first.
+pytest of its own, which gets the OPTIONs. Those that take longest by the clock, according to
+gate/seconds.txt, begin first.
 
 With --after build the tools are built, and the program is proved by gate/build.py; files that need
 no lrupd run meanwhile. With --after ci, `rt ci` proves everything, tries the edits and tests the
 crates, and then come the tests of programs. Both also check the pages and C's warnings, unless
 names are given. The last line is 'N passed, M failed': rows of tests, what rt ci counts, and each
-other step. With --write, the processor seconds of the tests that were run go into
-gate/seconds.txt."""
+other step. With --write, the seconds of the tests that were run go into gate/seconds.txt."""
 import argparse
 import contextlib
 import os
@@ -24,7 +24,7 @@ import tempfile
 import time
 from collections import Counter
 from pathlib import Path
-from typing import Dict, Iterator, List, Optional, Sequence
+from typing import Dict, Iterator, List, Optional, Sequence, Tuple
 
 sys.dont_write_bytecode = True
 import build
@@ -34,6 +34,7 @@ SECONDS_FILE = ROOT / "gate" / "seconds.txt"
 BUILT = ROOT / "crates" / "lrupd" / "out" / "lrupd"
 CORES = build.CORES
 AT_ONCE = CORES + 2     # files of tests, since most tests wait now and then
+UNKNOWN = (20, 20)      # the seconds of a file of tests that was never measured
 QUIET = 30              # seconds after which a line says what is going on
 NO_ROWS = 5             # pytest's status if all rows of a file are left out
 CI_SECONDS = 9000       # processor seconds of rt ci from nothing
@@ -43,10 +44,10 @@ SIGNALS = (signal.SIGINT, signal.SIGTERM)
 WITHOUT_LRUPD = ("builds", "quotes")
 
 
-def seconds_of(kind: str) -> Dict[str, int]:
-    """The processor seconds of each crate, or of each file of tests, by its name."""
-    return {name: int(seconds) for name, seconds in re.findall(
-        rf"^{kind} (\w+) (\d+)$", SECONDS_FILE.read_text(), re.M)}
+def seconds_of_tests() -> Dict[str, Tuple[int, int]]:
+    """The processor seconds of each file of tests, and its seconds by the clock."""
+    return {name: (int(used), int(elapsed)) for name, used, elapsed in re.findall(
+        r"^tests (\w+) (\d+) (\d+)$", SECONDS_FILE.read_text(), re.M)}
 
 
 def clock(seconds: float) -> str:
@@ -59,7 +60,7 @@ class Step:
     def __init__(self, name: str, words: Sequence[object], reckoned: int, nice: int = 0,
                  is_tests: bool = False) -> None:
         self.name, self.reckoned, self.is_tests = name, reckoned, is_tests
-        self.began, self.used = time.monotonic(), 0
+        self.began, self.used, self.took = time.monotonic(), 0, 0
         self.said = tempfile.TemporaryFile()
         self.status: Optional[int] = None
         self.shown = 0      # the characters of its output that show_lines has looked at
@@ -79,6 +80,7 @@ class Step:
             if pid:
                 self.status = self.process.returncode = os.waitstatus_to_exitcode(status)
                 self.used = round(usage.ru_utime + usage.ru_stime)
+                self.took = round(time.monotonic() - self.began)
         return self.status is not None
 
     def elapsed(self) -> str:
@@ -98,7 +100,7 @@ class Run:
 
     def __init__(self, options: argparse.Namespace) -> None:
         self.options = options
-        self.seconds = seconds_of("tests")
+        self.seconds = seconds_of_tests()
         self.running: List[Step] = []
         self.done: Dict[str, Step] = {}
         self.skipped: Counter[str] = Counter()
@@ -107,16 +109,16 @@ class Run:
         if not shutil.which(options.pytest.split()[0]):
             self.skipped["all tests of programs: pytest isn't installed"] += 1
             named = []
-        self.todo = sorted(named, key=lambda name: -self.reckoned(name))
+        self.todo = sorted(named, key=lambda name: -self.seconds.get(name, UNKNOWN)[1])
         self.began = self.said = time.monotonic()
         self.all_seconds = sum(map(self.reckoned, self.todo)) + sum(self.proving().values())
 
     def reckoned(self, name: str) -> int:
-        return self.seconds.get(name, 20)
+        return self.seconds.get(name, UNKNOWN)[0]
 
     def proving(self) -> Dict[str, int]:
         if self.options.after == "build":
-            return seconds_of("crate")
+            return {name: build.seconds(name) for name in build.ALL}
         return {"ci": CI_SECONDS} if self.options.after == "ci" else {}
 
     def say(self, text: str) -> None:
@@ -260,11 +262,11 @@ class Run:
         print(f"{self.passed} passed, {self.failed} failed", flush=True)
 
     def write_seconds(self) -> None:
-        found = {**seconds_of("tests"),
-                 **{name: step.used for name, step in self.done.items() if step.is_tests}}
+        found = {**seconds_of_tests(), **{name: (step.used, step.took)
+                                          for name, step in self.done.items() if step.is_tests}}
         text = re.sub(r"^tests .*\n", "", SECONDS_FILE.read_text(), flags=re.M)
-        SECONDS_FILE.write_text(text + "".join(f"tests {name} {seconds}\n"
-                                               for name, seconds in sorted(found.items())))
+        SECONDS_FILE.write_text(text + "".join(f"tests {name} {used} {elapsed}\n" for
+                                               name, (used, elapsed) in sorted(found.items())))
 
 
 @contextlib.contextmanager

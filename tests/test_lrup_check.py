@@ -304,10 +304,10 @@ def help_of(work: Path) -> None:
     answer = check(["--help"])
     want((answer.out.startswith("usage: lrup-check [OPTIONS] FORMULA PROOF"), answer.said,
           answer.status),
-         (True, "", 0), "--help")
+         (True, "", 2), "--help")
     answer = check(["--version"])
     want((answer.out, answer.said, answer.status),
-         (f"lrup-check {(ROOT / 'VERSION').read_text()}", "", 0), "--version")
+         (f"lrup-check {(ROOT / 'VERSION').read_text()}", "", 2), "--version")
 
 
 def anywhere(work: Path) -> None:

@@ -165,7 +165,7 @@ static void show(void) {
     if (given[SHOW_HELP]) printf("%s", is_check ? HELP_OF_CHECK : HELP);
     else printf("%s %s\n", is_check ? "lrup-check" : "lrup-solve", VERSION);
     if (fflush(stdout) != 0) err(1, "cannot write to standard output");
-    exit(0);
+    exit(is_check ? 2 : 0);     // for lrup-check 0 would be a proof
 }
 
 static void read_expect(const char *word) {
