@@ -175,7 +175,7 @@ class Run:
                               for word in ("passed", "(?:failed|error)"))
             if not failed and step.status not in (0, NO_ROWS):
                 failed = 1
-        elif failed and "CI" not in os.environ:
+        elif step.name == "tools" and failed and "CI" not in os.environ:
             lacks = re.findall(r"^(.* needs? .* package .*)", text, re.M)
             self.skipped.update(lacks)
             failed = int(not lacks)
@@ -213,10 +213,9 @@ class Run:
     def everything(self) -> None:
         options = self.options
         if options.after:
-            checks = [] if options.names else ["warnings", "pages"]
-            self.start("tools", ["make", "-s", "-k", f"-j{CORES}", "tools", *checks])
-            while self.running:
-                self.wait()
+            self.run_alone("tools", ["make", "-s", "-k", f"-j{CORES}", "tools"])
+        if options.after and not options.names:
+            self.run_alone("checks", ["make", "-s", "-k", f"-j{CORES}", "warnings", "pages"])
         proof: Optional[Step] = None
         sources = build.sum_of_sources(options.rt) if options.after == "ci" else ""
         if options.after == "build":
@@ -228,6 +227,7 @@ class Run:
             self.start_ready(CORES if options.after == "build" else 0, 19, WITHOUT_LRUPD)
             self.wait()
         if proof and proof.status:
+            self.skipped.update(f"{name}: lrupd isn't proved" for name in self.todo)
             self.todo = []
         elif options.after == "ci":
             build.put_program(options.rt, sources, ROOT / options.program)
@@ -236,13 +236,17 @@ class Run:
             self.wait()
         self.find_links()
 
+    def run_alone(self, name: str, words: Sequence[object]) -> None:
+        self.start(name, words)
+        while self.running:
+            self.wait()
+
     def find_links(self) -> None:
-        """The next `rt ci` would refuse a link that a test has left in the tree."""
-        words = ["find", ".", "-path", "./.git", "-prune", "-o", "-type", "l", "-print"]
-        links = subprocess.run(words, cwd=ROOT, capture_output=True, text=True, check=True).stdout
+        """The next `rt ci` would refuse a link that a test has left among what is built."""
+        links = [str(path) for path in (ROOT / "out").rglob("*") if path.is_symlink()]
         if links:
             self.failed += 1
-            self.say(f"links in the tree, which rt refuses:\n{links.rstrip()}")
+            self.say("\n".join(["links, which rt refuses:", *links]))
 
     def start_ready(self, most: int, nice: int, names: Sequence[str]) -> None:
         """Starts tests with these names, so that at most this many files run at once."""
