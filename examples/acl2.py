@@ -40,12 +40,17 @@ def clauses_of(path: str) -> Iterator[List[int]]:
             clause = []
 
 
+def is_tautology(clause: List[int]) -> bool:
+    """Whether a clause without repeated literals has complementary ones."""
+    return len({abs(literal) for literal in clause}) < len(clause)
+
+
 def narrow_formula(path: str) -> str:
     with open(path) as lines:
         variables = int(next(line for line in lines if line[0] == "p").split()[2])
     clauses = [sorted(set(clause), key=abs) for clause in clauses_of(path)]
-    proper = next((clause for clause in clauses if len(set(map(abs, clause))) == len(clause)), [])
-    kept = [clause if len(set(map(abs, clause))) == len(clause) else proper for clause in clauses]
+    proper: List[int] = next((clause for clause in clauses if not is_tautology(clause)), [])
+    kept = [proper if is_tautology(clause) else clause for clause in clauses]
     return f"p cnf {variables} {len(kept)}\n" + "".join(" ".join(map(str, [*clause, 0])) + "\n"
                                                         for clause in kept)
 

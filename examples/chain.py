@@ -9,7 +9,7 @@ saves the clauses that are live at its end, in the order of their identities, an
 in this order is its identity in the next round: so each piece is renumbered. FOLDER, a new one,
 gets the streams and the sizes of all rounds, and
 
-    lrup-chain --tries 1000000 FORMULA FOLDER
+    lrup-recheck --tries 1000000 FOLDER FORMULA
 
 checks them with lrupd. You needn't trust this script: lrupd reports what is wrong in a round.
 """

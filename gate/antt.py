@@ -73,12 +73,10 @@ class Declaration(NamedTuple):
 
 
 class Source:
-    """A file or a part of one, from line `first` on: its first comment, its `use` lines, and what
-    it declares."""
+    """A file or a part of one, from line `first` on: its `use` lines, and what it declares."""
 
     def __init__(self, lines: Iterable[str], path: Path, first: int = 0) -> None:
         self.path = path
-        self.title: List[str] = []
         self.uses: List[str] = []
         self.declarations: List[Declaration] = []
         self.read(lines, first)
@@ -88,7 +86,7 @@ class Source:
 
     def read(self, lines: Iterable[str], first: int) -> None:
         comment: List[str] = []
-        at_title, indent, opens = True, 0, False    # `opens`: inside the head of a `module`
+        indent, opens = 0, False    # `opens`: inside the head of a `module`
         for place, line in enumerate(lines, first):
             if line.strip():
                 indent = min(indent, len(line) - len(line.lstrip()))
@@ -96,9 +94,6 @@ class Source:
             if inner.startswith("--"):
                 comment.append(inner)
                 continue
-            if at_title and comment and not self.begins(inner):
-                self.title, comment = comment, []
-            at_title = at_title and not line.strip() and not self.title
             if not line.strip():
                 comment = []
             elif inner.startswith(("mod ", "pub mod ")):
@@ -112,6 +107,7 @@ class Source:
                 self.uses[-1] += line.strip()
             elif self.begins(inner):
                 head = HEAD.match(inner)
+                assert head
                 item = head["name"], head["marks"].split(), comment, place, [line], indent
                 self.declarations.append(Declaration(*item))
                 comment = []

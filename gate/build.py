@@ -1,16 +1,17 @@
 #!/usr/bin/env python3
-"""Proves the program and all libraries that it uses, independent crates in parallel.
+"""Proves lrupd and lrup-model and all libraries that they use, independent crates in parallel.
 
-    python3 gate/build.py RT PLACE
+    python3 gate/build.py RT LRUPD
 
 rt allows one run at a time in a crate and those below it, and nearly all crates use lrup_model. So
 each library is proved in a lane: a folder with copies of its sources and of the libraries below it;
-meanwhile the library's out/ is there, too. Crates with the longest path to the program, by SECONDS,
+meanwhile the library's out/ is there, too. Crates with the longest path to a program, by SECONDS,
 come first, and the others get a smaller share of the cores. After an interruption, the next build
-keeps what was proved. At the end `rt run` proves and runs the program, and a copy of it is put
-at PLACE. rt recognizes proved libraries by checksums, and proves all others again, so no proof
-depends on this script. Beside the copy a file says from which sources and by which rt it was proved
-and built: as long as these stay the same, there is nothing to do."""
+keeps what was proved. At the end `rt run` proves and runs each program. A copy of lrupd is put at
+the path LRUPD, and one of lrup-model beside it. rt recognizes proved libraries by checksums, and
+proves all others again, so no proof depends on this script. Beside each copy a file says from which
+sources and by which rt it was proved and built: as long as these stay the same, there is nothing to
+do."""
 import fcntl
 import hashlib
 import os
@@ -23,11 +24,34 @@ import sys
 import tempfile
 import time
 from pathlib import Path
+from typing import List, NamedTuple, Optional, Set, Tuple
 
 ROOT = Path(__file__).resolve().parent.parent
 CRATES = ROOT / "crates"
-PROGRAM = "lrupd"
-LOG = CRATES / PROGRAM / "out" / "build.log"
+
+
+class Program(NamedTuple):
+    """A program that is proved: its name, its crate, and files on which it ends with a status."""
+    name: str
+    crate: str
+    files: List[Path]
+    status: int
+
+    def built(self) -> Path:
+        """Where rt leaves it."""
+        return CRATES / self.crate / "out" / self.crate
+
+    def place(self, lrupd: Path) -> Path:
+        """Where its copy is, if lrupd's copy is at this path."""
+        return lrupd.with_name(self.name) if self.name != "lrupd" else lrupd
+
+
+PROGRAMS = [
+    Program("lrupd", "lrupd", [ROOT / "examples/four-clause.cnf",
+                               ROOT / "examples/four-clause.lrup"], 0),
+    Program("lrup-model", "lrup_model_check", [CRATES / "lrup_model_check/data/three.cnf",
+                                               CRATES / "lrup_model_check/data/three.model"], 10)]
+LOG = CRATES / "lrupd" / "out" / "build.log"
 # The lanes aren't next to the sources, where rt ci would refuse copies left by a killed build.
 LANES = (ROOT / ".git" if (ROOT / ".git").is_dir() else ROOT / "out") / "lanes"
 PARTS = ("src", "specs", "proofs")
@@ -47,23 +71,24 @@ SECONDS = {name: int(seconds) for name, seconds in re.findall(
     r"^crate (\w+) (\d+)$", (ROOT / "gate/seconds.txt").read_text(), re.M)}
 
 
-def below(name):
+def below(name: str) -> Set[str]:
     return {crate for use in USES[name] for crate in {use, *below(use)}}
 
 
-ALL = {PROGRAM, *below(PROGRAM)}
+LIBRARIES = {crate for program in PROGRAMS for crate in below(program.crate)}
+ALL = {*LIBRARIES, *(program.crate for program in PROGRAMS)}
 
 
-def seconds(*names):
+def seconds(*names: str) -> int:
     return sum(SECONDS.get(name, 60) for name in names)
 
 
-def way(name):
-    """The seconds of the longest path from the crate to the program."""
+def way(name: str) -> int:
+    """The seconds of the longest path from the crate to a program."""
     return seconds(name) + max((way(above) for above in ALL if name in USES[above]), default=0)
 
 
-def is_young(name):
+def is_young(name: str) -> bool:
     """Whether the library is newer than its sources. If it still doesn't match them, `rt run`
     notices."""
     stamp = CRATES / name / "out/rlib/stamp"
@@ -72,19 +97,19 @@ def is_young(name):
     return stamp.is_file() and stamp.stat().st_mtime > max(file.stat().st_mtime for file in files)
 
 
-def lanes_at_once():
-    available = re.search(r"MemAvailable: +(\d+)", Path("/proc/meminfo").read_text())
-    return max(1, min(CORES, int(int(available[1]) / 1e6 / GB_EACH)))
+def lanes_at_once() -> int:
+    available = re.findall(r"MemAvailable: +(\d+)", Path("/proc/meminfo").read_text())
+    return max(1, min(CORES, int(int(available[0]) / 1e6 / GB_EACH)))
 
 
-def link(one, other):
+def link(one: str, other: str) -> None:
     try:
         os.link(one, other)
     except OSError:
         shutil.copy2(one, other)
 
 
-def locked(folder):
+def locked(folder: Path) -> int:
     """Waits until no rt works in the folder, and keeps any other rt out until the returned file is
     closed."""
     held = os.open(folder, os.O_RDONLY)
@@ -99,14 +124,15 @@ def locked(folder):
 class Lane:
     """A library that is being proved."""
 
-    def __init__(self, name):
-        self.name, self.began, self.run, self.used = name, time.monotonic(), None, 0
+    def __init__(self, name: str) -> None:
+        self.name, self.began, self.used = name, time.monotonic(), 0
+        self.run: Optional[subprocess.Popen[bytes]] = None
         self.home, self.top = CRATES / name, LANES / name
         self.here = self.top / "crates" / name
         self.lock = locked(self.home)
         self.said = tempfile.TemporaryFile("w+", errors="replace")
 
-    def start(self, *words):
+    def start(self, *words: str) -> None:
         self.go_home()  # takes back what a killed build left in the lane
         names = {self.name, *below(self.name)}
         for crate in names:
@@ -123,7 +149,7 @@ class Lane:
         self.run = subprocess.Popen(words, cwd=self.here, stdin=subprocess.DEVNULL,
                                     stdout=self.said, stderr=subprocess.STDOUT)
 
-    def go_home(self):
+    def go_home(self) -> None:
         if self.here.is_dir():
             lock = locked(self.here)
             if (self.here / "out").is_dir() and not (self.home / "out").exists():
@@ -131,8 +157,9 @@ class Lane:
             os.close(lock)
         shutil.rmtree(self.top, ignore_errors=True)
 
-    def has_ended(self):
-        """Whether the run has ended. If so, `used` has its processor seconds."""
+    def has_ended(self) -> bool:
+        """Whether the started run has ended. If so, `used` has its processor seconds."""
+        assert self.run
         if self.run.returncode is None:
             pid, status, usage = os.wait4(self.run.pid, os.WNOHANG)
             if pid:
@@ -140,7 +167,7 @@ class Lane:
                 self.used = round(usage.ru_utime + usage.ru_stime)
         return self.run.returncode is not None
 
-    def end(self):
+    def end(self) -> Tuple[int, str]:
         """Ends the run, if it was started, and returns its status and its output."""
         if self.run and not self.has_ended():
             self.run.terminate()
@@ -155,12 +182,12 @@ class Lane:
         return status, self.said.read()
 
 
-def left(done):
+def left(done: Set[str]) -> int:
     """The percentage of the SECONDS that is left."""
     return 100 * seconds(*ALL - done) // seconds(*ALL)
 
 
-def print_proved(done, name, began, used):
+def print_proved(done: Set[str], name: str, began: float, used: int) -> None:
     """Prints the line of a proved crate, with its elapsed time and its processor seconds."""
     took = int(time.monotonic() - began)
     rest = f"; {left(done)} % left" * bool(left(done))
@@ -168,13 +195,14 @@ def print_proved(done, name, began, used):
     print(f"{len(done)} of {len(ALL)}: {name}, {clock}, processor {used} s{rest}", flush=True)
 
 
-def prove_libraries(rt, done):
+def prove_libraries(rt: str, done: Set[str]) -> Tuple[int, str]:
     """Proves the libraries that aren't done. Returns the status, and the output of the library that
     failed, if any."""
-    todo = sorted(ALL - {PROGRAM} - done, key=way, reverse=True)
+    todo = sorted(LIBRARIES - done, key=way, reverse=True)
     if todo:
         print(f"{len(done)} of {len(ALL)} were proved before; {left(done)} % left", flush=True)
-    running, most = [], lanes_at_once()
+    running: List[Lane] = []
+    most = lanes_at_once()
     try:
         while todo or running:
             ready = [name for name in todo if below(name) <= done]
@@ -204,28 +232,30 @@ def prove_libraries(rt, done):
     return 0, ""
 
 
-def processor_seconds():
+def processor_seconds() -> int:
     """The processor seconds of all runs that have ended."""
     usage = resource.getrusage(resource.RUSAGE_CHILDREN)
     return round(usage.ru_utime + usage.ru_stime)
 
 
-def prove_program(rt, were_libraries):
+def prove_program(rt: str, program: Program, done: Set[str],
+                  were_libraries: bool) -> Tuple[bool, str]:
     """Proves and runs the program. Prints that it is proved, unless it was proved before and no
-    library's line was printed."""
-    began, before = time.monotonic(), processor_seconds()
-    files = [ROOT / "examples" / f"four-clause.{end}" for end in ("cnf", "lrup")]
-    words = [rt, "run", "--jobs", "1", "--", *files]    # more don't make it faster
-    ran = subprocess.run(words, cwd=CRATES / PROGRAM, stdout=subprocess.PIPE,
+    library's line was printed. Returns whether it failed, and the output."""
+    began, before, crate = time.monotonic(), processor_seconds(), program.crate
+    words = [rt, "run", "--jobs", "1", "--", *map(str, program.files)]  # more don't make it faster
+    ran = subprocess.run(words, cwd=CRATES / crate, stdout=subprocess.PIPE,
                          stderr=subprocess.STDOUT, errors="replace")
-    is_new = were_libraries or re.search(rf"^crate {PROGRAM}:", ran.stdout, re.M)
-    if is_new and not ran.returncode:
-        print_proved(ALL, PROGRAM, began, processor_seconds() - before)
-    return ran.returncode, ran.stdout
+    has_failed = ran.returncode != program.status
+    if not has_failed:
+        done.add(crate)
+    if not has_failed and (were_libraries or re.search(rf"^crate {crate}:", ran.stdout, re.M)):
+        print_proved(done, crate, began, processor_seconds() - before)
+    return has_failed, ran.stdout
 
 
-def sum_of_sources(rt):
-    """A checksum of all that the program is proved and built from, and of rt's version."""
+def sum_of_sources(rt: str) -> str:
+    """A checksum of all that the programs are proved and built from, and of rt's version."""
     found = hashlib.sha256(subprocess.run([rt, "version"], stdout=subprocess.PIPE).stdout)
     parts = [CRATES / name / part for name in sorted(ALL) for part in PARTS]
     files = sorted(file for part in parts for file in part.rglob("*") if file.is_file())
@@ -235,20 +265,20 @@ def sum_of_sources(rt):
     return found.hexdigest()
 
 
-def words_of(sources, place):
+def words_of(sources: str, place: Path) -> str:
     return f"{sources} {hashlib.sha256(place.read_bytes()).hexdigest()}\n"
 
 
-def is_proved(sources, place):
+def is_proved(sources: str, place: Path) -> bool:
     """Whether the program there was proved and built from these sources."""
     said = place.with_suffix(".proved")
     return place.is_file() and said.is_file() and said.read_text() == words_of(sources, place)
 
 
-def put_program(rt, sources, place):
+def put_program(rt: str, sources: str, built: Path, place: Path) -> None:
     """Copies the program to its place, where it may be running. It was proved and built since the
     sources had this checksum; if they have changed meanwhile, nothing is said of them."""
-    built, said = CRATES / PROGRAM / "out" / PROGRAM, place.with_suffix(".proved")
+    said = place.with_suffix(".proved")
     place.parent.mkdir(parents=True, exist_ok=True)
     said.unlink(missing_ok=True)
     shutil.copy2(built, f"{place}.new")
@@ -257,21 +287,28 @@ def put_program(rt, sources, place):
         said.write_text(words_of(sources, place))
 
 
-def main():
+def put_programs(rt: str, sources: str, lrupd: Path) -> None:
+    for program in PROGRAMS:
+        put_program(rt, sources, program.built(), program.place(lrupd))
+
+
+def main() -> None:
     signal.signal(signal.SIGTERM, lambda *_: sys.exit(143))
-    rt, place = sys.argv[1], ROOT / sys.argv[2]
+    rt, lrupd = sys.argv[1], ROOT / sys.argv[2]
     sources = sum_of_sources(rt)
-    if is_proved(sources, place):
+    if all(is_proved(sources, program.place(lrupd)) for program in PROGRAMS):
         return
-    young = {name for name in ALL - {PROGRAM} if is_young(name)}
-    status, said = prove_libraries(rt, set(young))
-    if not status:
-        status, said = prove_program(rt, young != ALL - {PROGRAM})
+    young = {name for name in LIBRARIES if is_young(name)}
+    done = set(young)
+    failed, said = prove_libraries(rt, done)
+    for program in PROGRAMS:
+        if not failed:
+            failed, said = prove_program(rt, program, done, young != LIBRARIES)
     LOG.parent.mkdir(exist_ok=True)
     LOG.write_text(said)
-    if status:
+    if failed:
         sys.exit(re.sub(r".*: proved\n", "", said))
-    put_program(rt, sources, place)
+    put_programs(rt, sources, lrupd)
 
 
 if __name__ == "__main__":

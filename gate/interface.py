@@ -1,11 +1,11 @@
 #!/usr/bin/env python3
-"""Checks that pages agree with the code and the definitions about the program's options, faults,
-causes, limits and defaults.
+"""Checks that pages agree with the code and the definitions about lrupd's options, faults, causes,
+limits and defaults, and about lrup-model's usage.
 
     python3 gate/interface.py [--write]
 
-With --write it copies the faults in USING to the manual page lrupd.1. Each part of these two pages
-that is compared as a whole begins and ends with a comment that names the part. Each page that
+With --write it copies the faults in USING to the manual page lrupd.1. Each part of a page that is
+compared as a whole begins and ends with a comment that names the part. Each page that
 FIGURES lists for a figure has to give that figure.
 """
 import re
@@ -20,13 +20,15 @@ from antt import ROOT
 FAULTS = "crates/stream_check/specs/Faults.antt"
 CAUSES = ["crates/run_files/specs/Faults.antt", "crates/lrup_model/specs/Layout.antt"]
 COMMAND, MODEL, LINE = "crates/command_line/src", "crates/lrup_model/src", "crates/lrup_text/src"
-HELP, MANUAL = f"{COMMAND}/help.rt", "docs/lrupd.1"
+HELP, MANUAL = f"{COMMAND}/help.rt", "man/lrupd.1"
 USING, EMITTING, FORMAT = "docs/USING.md", "docs/EMITTING.md", "docs/FORMAT.md"
-SOLVE, EXACT, EXPLAIN = "docs/lrup-solve.1", "docs/lrup-exact.1", "docs/lrup-explain.1"
-READER, EXPLAINER, FRONT = "tools/exact", "tools/explain/main.c", "tools/solve/front/front.c"
+SOLVE, EXACT, EXPLAIN = "man/lrup-solve.1", "man/lrup-exact.1", "man/lrup-explain.1"
+LIBRARY, FILTER = "tools/lib", "tools/lrup-exact"
+OF_MODELS, USAGE = "man/lrup-model.1", "crates/lrup_model_check/src/main.rt"
+EXPLAINER, FRONT = "tools/lrup-explain/main.c", "tools/lrup-solve/front.c"
 # The manual pages of tools, and the sources that read the tools' options.
-READERS = {SOLVE: ["tools/solve/options.cpp", FRONT], EXACT: [f"{READER}/main.c"],
-           EXPLAIN: [EXPLAINER], "docs/lrup-trim.1": ["tools/trim/main.c"]}
+READERS = {SOLVE: ["tools/lrup-solve/options.def"], EXACT: [f"{FILTER}/main.c"],
+           EXPLAIN: [EXPLAINER], "man/lrup-trim.1": ["tools/lrup-trim/main.c"]}
 NUMBER = r"(UINT64_C\(1\) << \d+|[\d_]+)"
 # Each figure's name in the table of limits; the files that contain the figure, each with the text
 # around it, where `?` is the figure; and the pages that give it.
@@ -34,36 +36,36 @@ FIGURES = [
     ("Variables of the formula", [f"{MODEL}/lit.rt MAX_VARIABLE: u32 = ?"], f"README.md {USING}"),
     ("Clauses of the formula", [f"{MODEL}/formula.rt MAX_CLAUSES: u32 = ?"], f"README.md {USING}"),
     ("Literals written in one clause of the formula",
-     [f"{MODEL}/formula.rt MAX_CLAUSE_LITERALS: u32 = ?", f"{READER}/formula.c MOST_LITERALS = ?"],
+     [f"{MODEL}/formula.rt MAX_CLAUSE_LITERALS: u32 = ?", f"{LIBRARY}/formula.c MOST_LITERALS = ?"],
      USING),
     ("Streams", [f"{MODEL}/layout.rt MAX_STREAMS: u64 = ?",
                  f"{COMMAND}/sizes.rt MAX_STREAMS: u64 = ?",
-                 "tools/solve/shared.h MOST_ENGINES = ?", f"{FRONT} MOST_STREAMS = ?"],
-     f"README.md {USING} {FORMAT} {MANUAL} {HELP} {SOLVE} {EXPLAIN} docs/lrup-trim.1"),
+                 "tools/lrup-engines/shared.h MOST_ENGINES = ?", f"{FRONT} MOST_STREAMS = ?"],
+     f"README.md {USING} {FORMAT} {MANUAL} {HELP} {SOLVE} {EXPLAIN} man/lrup-trim.1"),
     ("Literals written in one line", [f"{LINE}/partial_line.rt MAX_LITERALS: usize = ?",
-                                      f"{READER}/stream.h LITERALS_OF_A_LINE = ?"],
+                                      f"{LIBRARY}/line_limits.h LITERALS_OF_A_LINE = ?"],
      f"{USING} {FORMAT} {EXACT}"),
     ("Hints, or deleted ids, in one line", [f"{LINE}/partial_line.rt MAX_IDENTITIES: usize = ?",
-                                            f"{READER}/stream.h IDENTITIES_OF_A_LINE ?"],
+                                            f"{LIBRARY}/line_limits.h IDENTITIES_OF_A_LINE ?"],
      f"{USING} {FORMAT} {EMITTING} {EXACT}"),
     ("Digits of a number in a stream", [f"{LINE}/partial_line.rt MAX_DIGITS: usize = ?",
-                                        f"{READER}/stream.h DIGITS = ?"], USING),
+                                        f"{LIBRARY}/line_limits.h DIGITS = ?"], USING),
     ("Words of 8 bytes in a row", [f"{MODEL}/layout.rt MAX_ROW_WORDS: u64 = ?",
                                    f"{COMMAND}/arguments.rt MAX_LINES: u64 = ?",
                                    f"{COMMAND}/arguments.rt MAX_ROOM: u64 = ?",
-                                   f"{READER}/row.h MOST_WORDS (?)"], f"{USING} {MANUAL} {HELP}"),
+                                   f"{LIBRARY}/row.h MOST_WORDS (?)"], f"{USING} {MANUAL} {HELP}"),
     ("--lines", [f'{COMMAND}/words.rt "lines", ?)', f"{EXPLAINER} USUAL_LINES = ?",
-                 f"{READER}/chain.c USUAL_LINES = ?"],
+                 f"{FILTER}/chain.c USUAL_LINES = ?"],
      f"{USING} {EMITTING} {MANUAL} {EXPLAIN} {HELP}"),
     ("--room", [f'{COMMAND}/words.rt "room", ?)', f"{EXPLAINER} USUAL_ROOM = ?"],
      f"{USING} {EMITTING} {MANUAL} {EXPLAIN} {HELP}"),
     ("--tries", [f'{COMMAND}/words.rt "tries", ?)'], f"{USING} {MANUAL} {HELP}"),
     ("the most --tries", [f"{COMMAND}/arguments.rt MAX_TRIES: u64 = ?", f"{FRONT} MOST_TRIES = ?",
                           f"{EXPLAINER} MOST_TRIES = ?"], f"{USING} {EMITTING} {MANUAL} {HELP}"),
-    ("the least --memory", [f"{READER}/row.c LEAST_MEMORY (?)"], f"{USING} {SOLVE} {EXACT}"),
-    ("the usual --memory", [f"{READER}/row.c USUAL_MEMORY (?)"], f"{USING} {SOLVE} {EXACT}"),
-    ("the most --memory", [f"{READER}/main.c more than ? bytes:"],
-     f"{SOLVE} {EXACT} tools/solve/options.cpp"),
+    ("the least --memory", [f"{LIBRARY}/row.c LEAST_MEMORY (?)"], f"{USING} {SOLVE} {EXACT}"),
+    ("the usual --memory", [f"{LIBRARY}/row.c USUAL_MEMORY (?)"], f"{USING} {SOLVE} {EXACT}"),
+    ("the most --memory", [f"{FILTER}/main.c more than ? bytes:"],
+     f"{SOLVE} {EXACT} tools/lrup-engines/options.cpp"),
     ("bytes of a formula from a pipe", [f"{FRONT} more than ? bytes, which"], SOLVE),
 ]
 
@@ -75,7 +77,7 @@ def text_of(name: str) -> str:
 def part(name: str, what: str) -> str:
     """The text between the two comments of a part."""
     ends = rf"^.*\b{what}: gate/interface.py.*\n([\s\S]*?)^.*\bend of {what}\b"
-    found = re.findall(ends, text_of(name), re.M)
+    found: List[str] = re.findall(ends, text_of(name), re.M)
     return found[0] if len(found) == 1 else sys.exit(
         f"{name}: no comments '{what}: gate/interface.py compares' and 'end of {what}'")
 
@@ -154,7 +156,7 @@ def wrong_options() -> Iterator[str]:
 def wrong_rows() -> Iterator[str]:
     """Options that a tool's code reads, but that its manual page, from which --help is made,
     doesn't list; and listed options that the code doesn't read."""
-    row = r'"([a-z][a-z-]*)", (?:\.value|\.flag|[01], |given\.|options\.)'
+    row = r'"([a-z][a-z-]*)", (?:\.value|\.flag|(?:[A-Z_]+|\'\w\'), [01]\))'
     for page, sources in READERS.items():
         items = " ".join(re.findall(r"^\.It Fl .*", text_of(page), re.M))
         listed = set(re.findall(r"Fl -([\w-]+)", items)) | {"check", "help", "version"}
@@ -162,6 +164,24 @@ def wrong_rows() -> Iterator[str]:
             read = set(re.findall(row, text_of(source))) | {"check", "help", "version"}
             yield from (f"{source}: it lacks --{name} of {page}" for name in sorted(listed - read))
             yield from (f"{page}: it lacks --{name} of {source}" for name in sorted(read - listed))
+
+
+def wrong_usage() -> Iterator[str]:
+    """What lrup-model's usage says, the manual page says, too: the same words, or, of a status, an
+    item that begins with them."""
+    usage: List[str] = re.findall(r'^const USAGE: &str = "usage: lrup-model([^"]*)";$',
+                                  text_of(USAGE), re.M)
+    synopsis, description, statuses = usage[0].split("\n\n")
+    texts = {"synopsis": synopsis, "description": description,
+             **dict(re.findall(r"(\d+): ([^.]*)\.", statuses))}
+    items = {"synopsis": re.sub(r" (Fl|Ar) ", " ", part(OF_MODELS, "synopsis")),
+             "description": part(OF_MODELS, "description"),
+             **dict(re.findall(r"^\.It (\d+)\n((?:(?!\.It).*\n)*)", part(OF_MODELS, "statuses"),
+                               re.M))}
+    for name in sorted(texts.keys() | items.keys()):
+        words, found = words_in(texts.get(name, "none")), words_in(items.get(name, ""))
+        if words != (found[:len(words)] if name.isdigit() else found):
+            yield f"{OF_MODELS}: {USAGE} has other words for {name}: use the same"
 
 
 def number_at(place: str) -> int:
@@ -191,7 +211,8 @@ def wrong_figures() -> Iterator[str]:
 
 
 def main() -> None:
-    wrong = [*wrong_faults(), *wrong_causes(), *wrong_options(), *wrong_rows(), *wrong_figures()]
+    wrong = [*wrong_faults(), *wrong_causes(), *wrong_options(), *wrong_rows(), *wrong_usage(),
+             *wrong_figures()]
     print("\n".join([*wrong, f"interface: {len(wrong)} faults"]))
     sys.exit(bool(wrong))
 

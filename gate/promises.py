@@ -2,27 +2,21 @@
 """Lists what the functions of crates promise, and the edits that make these functions wrong.
 
     promises.py [CRATE..]
-    promises.py --check     fails if docs/PROMISES.md gives a name that no contract has
 
-For each function with clauses it prints their names, and how many have no name; the gate's edits
-that change the function; and those of gate/edits, in brackets. A public function that no edit
-changes is marked 'no edit', unless it is a law, which has no body. An edit belongs to the function
-that contains its first old text.
-
-On docs/PROMISES.md each name in backticks below a crate's name has to be one of the crate's
-functions, clauses or laws. A lemma is none of these.
+For each function with clauses it prints their names, and how many have no name; the comments above
+the function and above its clauses; the gate's edits that change the function; and those of
+gate/edits, in brackets. A public function that no edit changes is marked 'no edit', unless it is a
+law, which has no body. An edit belongs to the function that contains its first old text.
 """
 import re
 import sys
+import textwrap
 from pathlib import Path
-from typing import Iterator, List, NamedTuple, Set
+from typing import Dict, Iterator, List, NamedTuple
 
 sys.dont_write_bytecode = True
 import antt
 from antt import ROOT
-
-PAGE = ROOT / "docs" / "PROMISES.md"
-UNPROVED = "## Only tested"     # from here on the page is about tests
 
 
 class Function(NamedTuple):
@@ -31,10 +25,20 @@ class Function(NamedTuple):
     first: int          # its first and last line, counting from 0
     last: int
     clauses: List[str]  # '' for one without a name
+    comments: Dict[str, str]    # of the function ('') and of its clauses, in one line each
 
 
 def sources(crate: str) -> List[Path]:
     return sorted((ROOT / "crates" / crate / "src").rglob("*.rt"))
+
+
+def comment_above(lines: List[str], at: int) -> str:
+    """The comment above a line and its attributes, in one line."""
+    words: List[str] = []
+    while at > 0 and re.match(r" *(///?( |$)|#\[)", lines[at - 1]):
+        at -= 1
+        words[:0] = re.sub(r" *(///?|#\[.*)", "", lines[at]).split()
+    return " ".join(words)
 
 
 def functions(path: Path) -> Iterator[Function]:
@@ -47,9 +51,13 @@ def functions(path: Path) -> Iterator[Function]:
             ends = re.compile(rf"{found[1]}\{{?\}}|.*\}};")
             last = next((k for k in range(at, len(lines)) if ends.fullmatch(lines[k])), at)
             is_public = found[2] is not None and lines[last] != "{}"
-            text = "\n".join(lines[at:last + 1])
-            clauses = re.findall(r"^ +ensures\*?(?: (\w+))? \{", text, re.M)
-            yield Function(holder + found[3], is_public, at, last, clauses)
+            clauses, comments = [], {"": comment_above(lines, at)}
+            for place in range(at, last + 1):
+                clause = re.match(r" +ensures\*?(?: (\w+))? \{", lines[place])
+                if clause:
+                    clauses.append(clause[1] or "")
+                    comments[clause[1] or "(no name)"] = comment_above(lines, place)
+            yield Function(holder + found[3], is_public, at, last, clauses, comments)
 
 
 def list_promises(crate: str) -> None:
@@ -57,8 +65,8 @@ def list_promises(crate: str) -> None:
     edits, home = [], ROOT / "crates" / crate
     for folder, form in (home / "must-fail", "{}"), (ROOT / "gate" / "edits" / crate, "[{}]"):
         for path in sorted(folder.glob("*.edit")):
-            file = re.search(r"^file: (.*)$", path.read_text(), re.M)[1]
-            old = re.search(r"^old: (.*)$", path.read_text(), re.M)[1]
+            file, old = (re.findall(rf"^{word}: (.*)$", path.read_text(), re.M)[0]
+                         for word in ("file", "old"))
             before = (home / file).read_text().partition(old)[0]
             edits.append((form.format(path.stem), home / file, before.count("\n")))
     for path in sources(crate):
@@ -70,46 +78,15 @@ def list_promises(crate: str) -> None:
                 named, count = [*filter(None, function.clauses)], function.clauses.count("")
                 clauses = ", ".join([*named, *[f"{count} without a name"] * bool(count)])
                 print(f"  {function.name} ({antt.shown(path)}:{function.first + 1}): {clauses}")
+                for name, text in function.comments.items():
+                    text = f"{name}: {text}" if name and text else text
+                    print(textwrap.indent(textwrap.fill(text, 94), " " * 6), end="\n" * bool(text))
             if mine or function.clauses and function.is_public:
                 print("      " + (", ".join(edit[0] for edit in mine) or "no edit"))
     print("".join(f"  outside of functions: {edit[0]}\n" for edit in edits), end="")
 
 
-def names_of(crate: str) -> Set[str]:
-    """The crate's modules, clauses and functions; a function also with its type or module."""
-    found: Set[str] = set()
-    for path in sources(crate):
-        for name, *_, clauses in functions(path):
-            found |= {path.stem, name, name.split("::")[-1], f"{path.stem}::{name}", *clauses}
-    return found
-
-
-def unknown_names() -> Iterator[str]:
-    """Names that the page gives as proved, but that no contract has. Words with a capital letter
-    are types, and words with a hyphen are options."""
-    uses = antt.crates()
-    libraries = {*uses, *(name for names in uses.values() for name in names)}
-    known: Set[str] = set()
-    crates: List[str] = []
-    for number, line in enumerate(PAGE.read_text().split(UNPROVED)[0].splitlines(), 1):
-        heading = re.match(r"\*\*(`.*?`)\*\*", line)
-        if heading:
-            crates = re.findall(r"`(\w+)`", heading[1])
-            below = {crate for user in crates for crate in uses[user] if crate in uses}
-            calls = set().union(*map(names_of, below))
-            known = libraries.union({name for name in calls if re.match("[A-Z].*::", name)},
-                                    *map(names_of, crates))
-        for name in re.findall(r"`((?:\w+::)?[a-z]\w*)`", line if crates and not heading else ""):
-            if name not in known:
-                yield (f"{PAGE.relative_to(ROOT)}:{number}: '{name}' is no function, clause or law "
-                       f"of {' or '.join(crates)}")
-
-
 def main(words: List[str]) -> None:
-    if words == ["--check"]:
-        found = list(unknown_names())
-        print("\n".join([*found, f"promises: {len(found)} names that no contract has"]))
-        sys.exit(bool(found))
     for name in words:
         if name not in antt.crates():
             sys.exit(f"promises: crates.txt has no '{name}'")

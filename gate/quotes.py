@@ -1,13 +1,15 @@
 #!/usr/bin/env python3
-"""Checks the pages of PAGES, which quote theorems and each definition that theorems reach.
+"""Checks the pages of PAGES, which quote theorems, and quote or list what theorems reach.
 
     quotes.py            names each place that is wrong, and says what to do
     quotes.py --write    first puts the source's text in place of each definition that differs
 
 A block of ```agda or ```rust is a quote; the last link in the paragraph above leads to its source.
-A definition is quoted once, whole and with its comment. In code, `..` replaces what is left out. A
-section says that the contracts quoted there 'use N definitions', and a page says that it 'quotes
-N definitions'. A page, or one before it in PAGES, has a list that explains names from libraries.
+A definition is quoted once, whole and with its comment. In code, `..` replaces what is left out.
+What isn't quoted is named beside a link to its file. On a page with a list of files, for a
+definition that no quote names itself, the file suffices. A section says that the contracts quoted
+there 'use N definitions', and a page says that it 'quotes N definitions', if it does. A page, or
+one before it in PAGES, has a list that explains names from libraries.
 """
 import re
 import sys
@@ -23,6 +25,7 @@ from antt import ROOT, Thing, shown
 DOCS = ROOT / "docs"
 PAGES = ["AUDIT", "THEOREMS", "STORE_CALLS", "PROOFS_AND_ROUNDS"]
 LINK = r"\[`([^`\]]+)`\]\(([^)\s#]*)[^)\s]*\)"
+LISTED = re.compile(r"^- \[`[^`]+`\]\(([^)\s#]+)\)((?: \((?:`\w+`[,\s]*)+\))?):", re.M)
 
 
 def file_of(link: str) -> Path:
@@ -55,8 +58,11 @@ class Page:
         text = self.file().read_text()
         empty = lambda block: "\n" * block[0].count("\n")
         self.text = re.sub(r"^```\w+\n(?:.*\n)*?```$", empty, text, flags=re.M)
-        lines = enumerate(self.text.split("\n"), 1)
-        self.headings = [1] + [number for number, line in lines if line.startswith("#")]
+        self.listed = {file_of(item[1]) for item in LISTED.finditer(self.text)}
+        self.text = LISTED.sub(     # each name in parentheses becomes a link of its own
+            lambda item: re.sub(r"`\w+`(?=[,\s)])", rf"[\g<0>]({item[1]})", item[0]), self.text)
+        numbered = enumerate(self.text.split("\n"), 1)
+        self.headings = [1] + [number for number, line in numbered if line.startswith("#")]
         self.quotes: List[Quote] = []
         for block in re.finditer(r"^((?:.+\n)*)\n?```\w+\n((?:.*\n)*?)```$", text, re.M):
             files = re.findall(r"\]\((\.\./[^)#]+)\)", block[1]) or ["."]
@@ -75,6 +81,15 @@ class Page:
             yield self.text.count("\n", 0, found.start()) + 1, " ".join(found[0].split())
 
 
+    def links(self) -> Iterator[Tuple[int, str, str, Path, str]]:
+        """Each link of code in prose: the line where its paragraph begins, the words that it is
+        said to have, what it says, its file, and the name that this file declares."""
+        for number, text in self.paragraphs():
+            for words, said, target in re.findall(rf"(?:`([^`]+)` in )?{LINK}", text):
+                file = file_of(target) if target else self.path
+                yield number, words, said, file, re.sub(r"^\w+::|\..*", "", said)
+
+
 def places_of(name: str) -> str:
     found = [shown(path) for path in sorted(ROOT.glob("crates/*/specs/**/*.antt"))
              if name in antt.read(path).owners]
@@ -83,8 +98,6 @@ def places_of(name: str) -> str:
 
 def wrong_definitions(quote: Quote) -> Iterator[str]:
     source, quoted, file = antt.read(quote.file), quote.source(), shown(quote.file)
-    if quoted.title and quoted.title != source.title:
-        yield f"{quote.at(quote.first)}: {file} doesn't begin with this comment: quote its own"
     for declared in quoted.declarations:
         own, name = source.owners.get(declared.name), declared.name
         if own is None:
@@ -124,10 +137,11 @@ def wrong_code(quote: Quote) -> Iterator[str]:
                 yield f"{place}: this function's premise '{text.strip()}' is left out: quote it"
 
 
-def wrong_choice(quotes: List[Quote]) -> Iterator[str]:
+def wrong_choice(pages: List[Page]) -> Iterator[str]:
     """Definitions that are quoted twice, that no statement reaches, or that a statement reaches but
-    no page quotes."""
+    no page quotes or names."""
     places: Dict[Thing, str] = {}
+    quotes = [quote for page in pages for quote in page.quotes]
     for quote in quotes:
         for declared in quote.source().declarations:
             thing, place = Thing(shown(quote.file), declared.name), quote.at(declared.place)
@@ -142,17 +156,33 @@ def wrong_choice(quotes: List[Quote]) -> Iterator[str]:
         for line in quote.lines:
             for name in re.findall(r"^ *pub (?:struct|enum|trait) (\w+)", line):
                 places[Thing(f"{crate}/src", name)] = ""
-    for thing, user in sorted(reached.items()):
-        if (thing.is_definition() or thing.is_of_code()) and thing not in places:
-            yield (f"{user.place}: {user.name} names {thing.name}, which no page quotes: quote it, "
-                   f"below a link to its file in {thing.place}")
+    named: Set[Thing] = set(places)
+    listed: Set[str] = set()
+    for page in pages:
+        for _, _, _, file, name in page.links():
+            crate = shown(file).partition("/src/")[0]
+            named.add(Thing(shown(file) if file.suffix == ".antt" else f"{crate}/src", name))
+        listed.update(map(shown, page.listed))
+        roots = {thing for quote in page.quotes for thing in quote.things()}
+        reached = antt.closure(roots)
+        for place in sorted({*map(shown, page.listed)} - {thing.place for thing in reached}):
+            if place.endswith(".antt"):
+                yield f"{shown(page.path)}: no statement reaches {place}: remove it from the list"
+        for thing, user in sorted(reached.items()):
+            if not (thing.is_definition() or thing.is_of_code()) or thing in named:
+                continue
+            if not page.listed or thing.is_of_code() or thing in roots or thing.place not in listed:
+                yield (f"{shown(page.path)}: {user.name} names {thing.name}, which no page quotes: "
+                       f"quote it, or name it beside a link to its file in {thing.place}")
 
 
 def wrong_counts(page: Page) -> Iterator[str]:
     count = sum(len(quote.source().declarations) for quote in page.quotes)
     lines = page.text.split("\n")
-    if re.findall(r"\bquotes (\d+) definitions", " ".join(page.text.split())) != [str(count)]:
-        yield f"{shown(page.path)}:1: say once on the page that it 'quotes {count} definitions'"
+    said = [str(count)] if count else []
+    if re.findall(r"\bquotes (\d+) definitions", " ".join(page.text.split())) != said:
+        yield (f"{shown(page.path)}:1: say once on the page that it 'quotes {count} definitions', "
+               "unless there are none")
     for first, last in zip(page.headings, [*page.headings[1:], len(lines) + 1]):
         roots = {thing for quote in page.quotes if quote.section == first
                  if re.search(r"^ *pub fn ", "\n".join(quote.lines), re.M)
@@ -166,35 +196,37 @@ def wrong_counts(page: Page) -> Iterator[str]:
 
 def wrong_text(page: Page, pages: Dict[Path, Page]) -> Iterator[str]:
     """Links that don't lead to what they name, and quoted words that their link's target lacks."""
-    for number, text in page.paragraphs():
-        for words, said, target in re.findall(rf"(?:`([^`]+)` in )?{LINK}", text):
-            file, name = file_of(target) if target else page.path, re.sub(r"^\w+::|\..*", "", said)
-            lines = file.read_text().split("\n") if file.is_file() else []
-            if file.suffix == ".antt" and lines:
-                own = antt.read(file).owners.get(name)
-                lines = own.shown() if own else []
-            elif file.suffix == ".md" and lines:
-                other = pages.get(file) or Page(file.stem, page.folder)
-                lines = [line for quote in other.quotes for line in quote.lines]
-            place, pattern = f"{shown(page.path)}:{number}", rf"^ *([a-z]+ )*{name}\b"
-            if name != file.stem and not re.search(pattern, "\n".join(lines), re.M):
-                yield (f"{place}: the link of {said} leads to {target}, which doesn't declare it: "
-                       f"{places_of(name)}")
-            elif words not in " ".join(" ".join(lines).split()):
-                yield f"{place}: {said} doesn't have `{words}`: quote the page's words"
+    for number, words, said, file, name in page.links():
+        lines = file.read_text().split("\n") if file.is_file() else []
+        if file.suffix == ".antt" and lines:
+            own = antt.read(file).owners.get(name)
+            lines = own.shown() if own else []
+        elif file.suffix == ".md" and lines:
+            other = pages.get(file) or Page(file.stem, page.folder)
+            lines = [line for quote in other.quotes for line in quote.lines]
+        place, pattern = f"{shown(page.path)}:{number}", rf"^ *([a-z]+ )*{name}\b"
+        if name != file.stem and not re.search(pattern, "\n".join(lines), re.M):
+            yield (f"{place}: the link of {said} leads to {shown(file)}, which doesn't declare it: "
+                   f"{places_of(name)}")
+        elif words not in " ".join(" ".join(lines).split()):
+            yield f"{place}: {said} doesn't have `{words}`: quote the page's words"
 
 
 def unexplained(page: Page, known: Set[str]) -> Iterator[str]:
     lists = " ".join(text for _, text in page.paragraphs() if text.startswith("- `"))
     known.update(*(re.split(r"[\s;()]+", span) for span in re.findall(r"`([^`]+)`", lists)))
+    reached = {thing for quote in page.quotes for thing in quote.things()}
+    if page.listed:
+        reached = set(antt.closure(reached))
     for quote in page.quotes:
         code = [line for declared in quote.source().declarations for line in declared.lines]
-        for thing in sorted(antt.things_in("\n".join(code or quote.lines), quote.file)):
-            parts = set(thing.name.strip("◌").split("◌"))
-            if not thing.is_definition() and not thing.is_of_code() and not parts <= known:
-                yield (f"{quote.at(quote.first)}: nothing explains `{thing.name}` of "
-                       f"{thing.place}: add a line to a list of the page")
-                known.update(parts)
+        reached |= antt.things_in("\n".join(code), quote.file)
+    for thing in sorted(reached):
+        parts = set(thing.name.strip("◌").split("◌"))
+        if not thing.is_definition() and not thing.is_of_code() and not parts <= known:
+            yield (f"{shown(page.path)}: nothing explains `{thing.name}` of {thing.place}: add a "
+                   "line to a list of the page")
+            known.update(parts)
 
 
 def write(page: Page) -> None:
@@ -214,7 +246,8 @@ def main(words: List[str], folder: Path = DOCS) -> None:
         sys.exit(__doc__)
     for name in PAGES if words else []:
         write(Page(name, folder))
-    pages, known = [Page(name, folder) for name in PAGES], set()
+    pages = [Page(name, folder) for name in PAGES]
+    known: Set[str] = set()
     quotes, by_path = ([quote for page in pages for quote in page.quotes],
                        {page.path: page for page in pages})
     fence = "a fence shares its line with other text, or a block isn't closed: fix it"
@@ -224,7 +257,7 @@ def main(words: List[str], folder: Path = DOCS) -> None:
     if not wrong:
         for quote in quotes:
             wrong += (wrong_definitions if quote.file.suffix == ".antt" else wrong_code)(quote)
-        wrong += wrong_choice(quotes)
+        wrong += wrong_choice(pages)
         for page in pages:
             wrong += [*wrong_counts(page), *wrong_text(page, by_path), *unexplained(page, known)]
     print("\n".join([*wrong, f"quotes: {len(wrong)} faults"]))

@@ -14,14 +14,15 @@ import subprocess
 import sys
 from collections import defaultdict
 from pathlib import Path
-from typing import Dict, Iterator, List, Optional, Set
+from typing import DefaultDict, Dict, Iterator, List, Optional, Set, Tuple
 
 sys.dont_write_bytecode = True
 import antt
 from antt import ROOT, shown
 
 # Names from the toolchain, the system or other programs, or made up by a page.
-FOREIGN = set("bazel glibc hugetlb my_lemma plm_rsh_agent sha socat veth".split())
+FOREIGN = set(("bazel glibc hugetlb mutex_round_the_store my_lemma plm_rsh_agent sha socat "
+               "veth").split())
 # Words that codespell doesn't know.
 SPELLINGS = ("anothers", "bu", "crate", "grat", "lits", "nd", "somes")
 
@@ -139,15 +140,15 @@ def wide_lines() -> Iterator[str]:
     and lines of proofs over 140."""
     for path in files(r".*\.py|crates/\w+/(src/.*\.rt|(specs|proofs)/.*\.antt)"):
         lines = path.read_text().splitlines()
+        limited: List[int] = []
         if path.suffix == ".py" or "/proofs/" in shown(path):
-            limited = range(len(lines))
+            limited += range(len(lines))
         elif path.suffix == ".antt":
-            limited = []
             for declared in antt.read(path).declarations:
                 parts = declared.head() if declared.is_lemma() else declared.lines
                 limited += range(declared.place, declared.place + len(parts))
         else:
-            limited, depth = [], 0
+            depth = 0
             for at, line in enumerate(lines):
                 if depth > 0 or re.match(r" *(requires|ensures)\b", line):
                     limited.append(at)
@@ -179,7 +180,8 @@ def normal(statement: str) -> Optional[str]:
 def repeated() -> Iterator[str]:
     """Lemmas that are stated twice, in one crate or in two that have a crate below in common; and
     names with two meanings."""
-    lemmas, meanings = defaultdict(list), defaultdict(dict)
+    lemmas: DefaultDict[Optional[str], List[Tuple[Set[str], str]]] = defaultdict(list)
+    meanings: DefaultDict[str, Dict[str, str]] = defaultdict(dict)
     for path in files(r"crates/\w+/(specs|proofs)/.*\.antt"):
         for declared in antt.read(path).declarations:
             place = f"{shown(path)}:{declared.place + 1} {declared.name}"
@@ -231,6 +233,22 @@ def misfits() -> Iterator[str]:
             yield f"{shown(edit)}: it changes nothing, or the gate has it, too"
 
 
+def uncaught() -> Iterator[str]:
+    """Wrong bodies on PROMISES without an edit or a test of that name in each crate of their row.
+    One that can't be written has a reason in place of crates."""
+    page = (ROOT / "docs/PROMISES.md").read_text()
+    rows = re.findall(r"^\| `(\w+)` \|.*\| (.*) \|$", page, re.M)
+    for name, caught in rows:
+        for crate in re.findall(r"`([a-z_]+)`", caught):
+            tests = files(rf"crates/{crate}/src/.*") if crate.endswith("_tests") else []
+            test = rf"#\[test\]\nfn {name}\("
+            if not ((ROOT / f"crates/{crate}/must-fail/{name}.edit").is_file()
+                    or any(re.search(test, path.read_text()) for path in tests)):
+                yield f"docs/PROMISES.md: {crate} has no edit or test {name}"
+    if not rows:
+        yield "docs/PROMISES.md: there is no table of wrong bodies"
+
+
 # Numbers and pictures.
 
 
@@ -263,7 +281,7 @@ def wrong_versions() -> Iterator[str]:
 
 def main() -> None:
     checks = (unknown_names, dead_links, false_quotations, misspelt, wide_lines, repeated,
-              misplaced, misfits, wrong_arrows, wrong_versions)
+              misplaced, misfits, uncaught, wrong_arrows, wrong_versions)
     found = {check.__name__.replace("_", " "): list(check()) for check in checks}
     counts = ", ".join(f"{len(lines)} {name}" for name, lines in found.items())
     print("\n".join([*(line for lines in found.values() for line in lines), f"style: {counts}"]))

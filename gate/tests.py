@@ -3,15 +3,16 @@
 
     python3 gate/tests.py --program LRUPD [--after build | --after ci] [NAME..] [-- OPTION..]
 
-NAME is a file tests/test_NAME.py without 'test_' and '.py'; without names all are run. Each has a
-pytest of its own, which gets the OPTIONs. Those that take longest by the clock, according to
+NAME is a file test_NAME.py below tests/; without names all are run. Each has a pytest of its own,
+which gets the OPTIONs. Those that take longest by the clock, according to
 gate/seconds.txt, begin first.
 
-With --after build the tools are built, and the program is proved by gate/build.py; files that need
-no lrupd run meanwhile. With --after ci, `rt ci` proves everything, tries the edits and tests the
-crates, and then come the tests of programs. Both also check the pages and C's warnings, unless
-names are given. The last line is 'N passed, M failed': rows of tests, what rt ci counts, and each
-other step. With --write, the seconds of the tests that were run go into gate/seconds.txt."""
+With --after build the tools are built, and the programs are proved by gate/build.py; files that
+need no lrupd run meanwhile. With --after ci, `rt ci` proves everything, tries the edits and tests
+the crates, and then come the tests of programs. Both also check the pages, C's warnings and
+Python's types, unless names are given. The last line is 'N passed, M failed': rows of tests, what
+rt ci counts, and each other step. With --write, the seconds of the tests that were run go into
+gate/seconds.txt."""
 import argparse
 import contextlib
 import os
@@ -31,7 +32,6 @@ import build
 
 ROOT = build.ROOT
 SECONDS_FILE = ROOT / "gate" / "seconds.txt"
-BUILT = ROOT / "crates" / "lrupd" / "out" / "lrupd"
 CORES = build.CORES
 AT_ONCE = CORES + 2     # files of tests, since most tests wait now and then
 UNKNOWN = (20, 20)      # the seconds of a file of tests that was never measured
@@ -39,6 +39,7 @@ QUIET = 30              # seconds after which a line says what is going on
 NO_ROWS = 5             # pytest's status if all rows of a file are left out
 CI_SECONDS = 9000       # processor seconds of rt ci from nothing
 PROOFS = ("build", "ci")
+CHECKS = ("warnings", "pages", "types")
 SIGNALS = (signal.SIGINT, signal.SIGTERM)
 # Files of tests that need no lrupd: their rows run while it is being proved.
 WITHOUT_LRUPD = ("builds", "quotes")
@@ -105,7 +106,8 @@ class Run:
         self.done: Dict[str, Step] = {}
         self.skipped: Counter[str] = Counter()
         self.passed = self.failed = 0
-        named = options.names or sorted(path.stem[5:] for path in ROOT.glob("tests/test_*.py"))
+        self.files = {path.stem[5:]: path for path in ROOT.glob("tests/**/test_*.py")}
+        named = options.names or sorted(self.files)
         if not shutil.which(options.pytest.split()[0]):
             self.skipped["all tests of programs: pytest isn't installed"] += 1
             named = []
@@ -127,8 +129,8 @@ class Run:
 
     # Steps.
 
-    def start(self, name: str, words: Sequence[object], reckoned: int = 0) -> Step:
-        self.running.append(Step(name, words, reckoned))
+    def start(self, name: str, words: Sequence[object], reckoned: int = 0, nice: int = 0) -> Step:
+        self.running.append(Step(name, words, reckoned, nice))
         return self.running[-1]
 
     def start_tests(self, name: str, nice: int) -> None:
@@ -138,7 +140,7 @@ class Run:
                     "ci": ["-m", "not long and not nightly"]}
         words = [*options.pytest.split(), f"--program={options.program}", f"--rt={options.rt}",
                  *left_out.get(options.after, ["-m", "not nightly"]), *options.options,
-                 f"tests/test_{name}.py"]
+                 self.files[name]]
         self.running.append(Step(name, words, self.reckoned(name), nice, is_tests=True))
 
     def wait(self) -> None:
@@ -214,8 +216,6 @@ class Run:
         options = self.options
         if options.after:
             self.run_alone("tools", ["make", "-s", "-k", f"-j{CORES}", "tools"])
-        if options.after and not options.names:
-            self.run_alone("checks", ["make", "-s", "-k", f"-j{CORES}", "warnings", "pages"])
         proof: Optional[Step] = None
         sources = build.sum_of_sources(options.rt) if options.after == "ci" else ""
         if options.after == "build":
@@ -223,6 +223,8 @@ class Run:
             proof = self.start("build", words, sum(self.proving().values()))
         elif options.after == "ci":
             proof = self.start("ci", [options.rt, "ci"], CI_SECONDS)
+        if options.after and not options.names:     # on cores that the proof leaves idle
+            self.start("checks", ["make", "-s", "-k", f"-j{CORES}", *CHECKS], nice=19)
         while proof in self.running:
             self.start_ready(CORES if options.after == "build" else 0, 19, WITHOUT_LRUPD)
             self.wait()
@@ -230,7 +232,7 @@ class Run:
             self.skipped.update(f"{name}: lrupd isn't proved" for name in self.todo)
             self.todo = []
         elif options.after == "ci":
-            build.put_program(options.rt, sources, ROOT / options.program)
+            build.put_programs(options.rt, sources, ROOT / options.program)
         while self.todo or self.running:
             self.start_ready(AT_ONCE, 0, self.todo)
             self.wait()
@@ -274,20 +276,19 @@ class Run:
 
 
 @contextlib.contextmanager
-def kept(program: Path) -> Iterator[None]:
-    """rt ci removes the program before it proves it: if it is then not built again, the one that
-    was there comes back."""
-    if not program.is_file():
-        yield
-        return
+def kept(programs: Sequence[Path]) -> Iterator[None]:
+    """rt ci removes the programs before it proves them: if one is then not built again, the one
+    that was there comes back."""
     with tempfile.TemporaryDirectory() as folder:
-        copy = shutil.copy2(program, folder)
+        copies = {program: shutil.copy2(program, folder) for program in programs
+                  if program.is_file()}
         try:
             yield
         finally:
-            if not program.exists():
-                program.parent.mkdir(parents=True, exist_ok=True)
-                shutil.copy2(copy, program)
+            for program, copy in copies.items():
+                if not program.exists():
+                    program.parent.mkdir(parents=True, exist_ok=True)
+                    shutil.copy2(copy, program)
 
 
 def end_by_signal(number: int, _: object) -> None:
@@ -312,7 +313,7 @@ def main() -> int:
     for number in SIGNALS:
         signal.signal(number, end_by_signal)
     run = Run(options)
-    with kept(BUILT):
+    with kept([program.built() for program in build.PROGRAMS]):
         try:
             run.everything()
         finally:

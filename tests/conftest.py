@@ -1,57 +1,138 @@
-"""What pytest needs to run the rows of tests: options, the folder of a row, and builds."""
+"""Options, fixtures and hooks of all tests of programs."""
 import os
+import sys
 import tempfile
 from pathlib import Path
-from typing import Any, Iterator, Optional, Tuple
+from typing import Any, Generator, Iterator, List, Optional, Tuple, Union
 
 import pytest
 
+SUPPORT = Path(__file__).with_name("support")
+sys.path.insert(0, str(SUPPORT))
+pytest.register_assert_rewrite(*(path.stem for path in SUPPORT.glob("*.py")))
 import harness
+
+# pytest cuts what it says about a failed assertion, unless this is set, as in CI.
+os.environ.setdefault("BUILD_NUMBER", "none")
 
 
 def pytest_addoption(parser: pytest.Parser) -> None:
     given = parser.getgroup("lrupd")
     given.addoption("--program", default=str(harness.BIN / "lrupd"),
-                    help="the lrupd that is tested")
+                    help="the lrupd that is tested, and beside it lrup-model")
     given.addoption("--rt", help="Rattle's command, for the crates' tests if they aren't built")
     given.addoption("--flags", default=harness.USUAL_FLAGS,
                     help="flags for lrup-solve's compilers, such as "
                     "--flags='-O1 -g -fsanitize=thread'")
-    given.addoption("--count", type=int, help="how many random rows, or mutants, a file has")
+    given.addoption("--count", type=int, help="how many seeds a random test has, or how many "
+                    "mutants a file")
     given.addoption("--first", type=int, default=0, help="the first mutant of a proof")
     given.addoption("--seed", type=int, default=1, help="the seed of test_lrup_solve_days")
     given.addoption("--minutes", type=float, default=0, help="how long test_lrup_solve_days lasts")
 
 
 def pytest_configure(config: pytest.Config) -> None:
-    """Puts the options into harness, where each module with rows finds them on import."""
+    """Puts the options into harness, where modules find them on import."""
     harness.PROGRAM = os.path.abspath(config.getoption("program"))
+    harness.MODEL = os.path.join(os.path.dirname(harness.PROGRAM), "lrup-model")
     for name in ("rt", "flags", "count", "first", "seed", "minutes"):
         setattr(harness, name.upper(), config.getoption(name))
 
 
+def pytest_generate_tests(metafunc: pytest.Metafunc) -> None:
+    """Runs a test with the mark seeds(COUNT) for each seed below COUNT, or --count."""
+    mark = metafunc.definition.get_closest_marker("seeds")
+    if mark:
+        count = metafunc.config.getoption("count")
+        metafunc.parametrize("seed", range(mark.args[0] if count is None else count))
+
+
+Reported = Generator[None, Any, None]
+
+
+@pytest.hookimpl(hookwrapper=True)  # type: ignore[misc]
+def pytest_runtest_makereport() -> Reported:
+    outcome = yield
+    report = outcome.get_result()
+    fail_if_skipped_in_ci(report)
+    crash = getattr(report.longrepr, "reprcrash", None)
+    if crash:   # the summary has a line for each failure
+        crash.message = crash.message.partition("\n")[0]
+
+
+@pytest.hookimpl(hookwrapper=True)  # type: ignore[misc]
+def pytest_make_collect_report() -> Reported:
+    outcome = yield
+    fail_if_skipped_in_ci(outcome.get_result())
+
+
+def fail_if_skipped_in_ci(report: Union[pytest.TestReport, pytest.CollectReport]) -> None:
+    """CI installs all packages and has to run all tests, so no skip may hide one."""
+    if report.skipped and harness.has_packages() and isinstance(report.longrepr, tuple):
+        report.outcome = "failed"
+        report.longrepr = f"skipped in CI: {report.longrepr[2]}"
+
+
 def pytest_report_teststatus(report: pytest.TestReport) -> Optional[Tuple[str, str, str]]:
-    """Rows that pass are counted, but not shown."""
+    """Tests that pass are counted, but not shown."""
     return ("passed", "", "PASSED") if report.passed and report.when == "call" else None
 
 
 def pytest_terminal_summary(terminalreporter: Any) -> None:
-    """Says why rows were tried again."""
+    """Says why tests were tried again."""
     for report in terminalreporter.stats.get("rerun", []):
-        why = getattr(report.longrepr, "reprcrash", report.longrepr)
-        terminalreporter.write_line(f"{report.nodeid}, tried again: {getattr(why, 'message', why)}")
+        terminalreporter.write_line(f"{report.nodeid}, tried again: {report.longreprtext}")
+
+
+@pytest.fixture(scope="session")
+def program() -> str:
+    """The lrupd that is tested."""
+    return harness.PROGRAM
+
+
+@pytest.fixture(scope="session")
+def model() -> str:
+    """The lrup-model that is tested."""
+    return harness.MODEL
+
+
+@pytest.fixture(scope="session")
+def rt() -> str:
+    """Rattle's command."""
+    if not harness.RT:
+        pytest.skip("no --rt")
+    return harness.RT
 
 
 @pytest.fixture
-def work() -> Iterator[Path]:
-    """A folder for one row, removed when the row ends."""
+def tmp_path() -> Iterator[Path]:
+    """A folder, removed when the test ends. Before version 7.3, pytest's own fixture keeps those of
+    three sessions, which some tests fill with gigabytes."""
     with tempfile.TemporaryDirectory() as folder:
         yield Path(folder)
 
 
+@pytest.fixture
+def work(tmp_path: Path) -> Path:
+    """The folder of a row."""
+    return tmp_path
+
+
+@pytest.fixture(params=[[], ["--serial"]], ids=["threads", "serial"])
+def way(request: pytest.FixtureRequest) -> List[str]:
+    """The two ways in which lrupd checks streams: each in threads of its own, or in turn."""
+    return list(request.param)
+
+
+@pytest.fixture
+def much_memory() -> None:
+    """For a test that takes up to 2 GB."""
+    harness.need_much_memory()
+
+
 @pytest.fixture(scope="session")
 def lrup_solve() -> None:
-    """Builds lrup-solve, or says why its rows can't run."""
+    """Builds lrup-solve, or says why its tests can't run."""
     import solving
     solving.built("solve", for_tests=False)
 

@@ -1,17 +1,15 @@
-"""Tests how make compiles C and C++: with the given flags, and again after a change.
-
-For the filter, lrup-trim, lrup-solve, lrup-engines-mpi and the example solver, checks the commands
-that make prints, with flags from the command line and from the environment. Compiles the filter in
-a copy of the sources, and again after a change of a source, a header or flags. Installs everything
-in a folder, and uninstalls it."""
+"""What make builds and installs: the compilers' commands, with flags from the command line and from
+the environment; what is compiled again after a change; and the installed files."""
 import os
 import re
 import shutil
 from pathlib import Path
 from typing import Dict, List, Sequence, Set
 
-from harness import (BUILDS, FILTER, LIMIT, ROOT, Ran, Row, alone, needs, parametrized, run,
-                     sanitized_explain, sanitized_filter, sanitized_trim, want, written)
+import pytest
+
+from harness import (BUILDS, FILTER, LIMIT, ROOT, Ran, alone, needs, run, sanitized_explain,
+                     sanitized_filter, sanitized_trim, written)
 from solving import built
 
 C = {"CC": "one-cc", "CFLAGS": "-DFLAG_OF_C", "CPPFLAGS": "-DFLAG_OF_BOTH", "LDFLAGS": "-Lflag",
@@ -31,120 +29,135 @@ def clean(more: Dict[str, str]) -> Dict[str, str]:
 def commands(target: str, words: Sequence[str], env: Dict[str, str]) -> List[List[str]]:
     """The compilers' commands that make would run if nothing were built."""
     done = run(["make", "-n", "-C", ROOT, target, "OUT=out/none", *words], env=clean(env))
-    want((done.err, done.status), ("", 0), "make's output")
+    assert (done.err, done.status) == ("", 0)
     found = [re.split(r" && |; ", line) for line in done.out.splitlines()]
     return [words for line in found for part in line for words in [part.split()]
             if " -o " in part and words]
 
 
-def with_flags(target: str, by_environment: bool, work: Path) -> None:
+@pytest.mark.parametrize("target", TARGETS)
+@pytest.mark.parametrize("by", ["environment", "command line"])
+def test_given_flags(target: str, by: str) -> None:
     """Each command has its language's flags, but no flags of another language, and no -O2."""
-    words, env = [f"{name}={value}" for name, value in WORDS.items()], {}
-    found = commands(target, *(([], WORDS) if by_environment else (words, env)))
+    words = [f"{name}={value}" for name, value in WORDS.items()]
+    found = commands(target, [], WORDS) if by == "environment" else commands(target, words, {})
     compilers = {word for line in found for word in line[:2]
                  if "=" not in word and not word.startswith("-")}
-    want(compilers, set(TARGETS[target]), "the compilers")
+    assert compilers == set(TARGETS[target])
     for line in found:
         is_c, links = line[0] == "one-cc", "-c" not in line
         flags = {word for word in line if word in WORDS.values()} - {"one-cc", "one-cxx"}
         wanted = {WORDS["CFLAGS" if is_c else "CXXFLAGS"],
                   *([C["LDFLAGS"], C["LDLIBS"]] if links else [C["CPPFLAGS"]])}
-        want((flags, "-O2" in line), (wanted, False), f"flags of {line}")
+        assert flags == wanted, line
+        assert "-O2" not in line
 
 
-def usual(target: str, work: Path) -> None:
+@pytest.mark.parametrize("target", TARGETS)
+def test_usual_flags(target: str) -> None:
     """By default each command has -O2."""
     for line in commands(target, [], {}):
-        want("-O2" in line, True, f"-O2 in {line}")
+        assert "-O2" in line
 
 
-# CFLAGS of the user, and the flags before them where the front is compiled, and where it is linked.
+# Flags that protect the front.
 STACK, BUFFERS, ANYWHERE = "-fstack-protector-strong", "-D_FORTIFY_SOURCE=2", "-fPIE"
 TABLES = "-Wl,-z,relro,-z,now"
-PROTECTED = [
+
+
+@pytest.mark.parametrize("user, compiling, linking", [
     *((user, {STACK, BUFFERS, ANYWHERE}, {TABLES, "-pie"})
       for user in ("-O2", "-O3 -g", "-O0 -O1", "-O2 -fno-stack-protector")),
     *((user, {STACK, ANYWHERE}, {TABLES, "-pie"})
       for user in ("-O0", "-O2 -O0", "-g", "-O1 -D_FORTIFY_SOURCE=3", "-O1 -U_FORTIFY_SOURCE")),
     *((user, {STACK, BUFFERS}, {TABLES})
-      for user in ("-O2 -static", "-O2 -no-pie", "-O2 -fno-pie"))]
-
-
-def protected(work: Path) -> None:
-    """The commands of lrup-solve's front, and no others, have these flags. The user's come later,
-    and so win."""
+      for user in ("-O2 -static", "-O2 -no-pie", "-O2 -fno-pie"))],
+    ids=lambda value: value if isinstance(value, str) else "")
+def test_the_fronts_flags(user: str, compiling: Set[str], linking: Set[str]) -> None:
+    """With CFLAGS of the user, the commands of lrup-solve's front and of lrup-check, and no others,
+    have these flags. The user's come later, and so win."""
     every = {STACK, BUFFERS, ANYWHERE, TABLES, "-pie"}
-    for user, compiling, linking in PROTECTED:
-        for line in commands("solve", [f"CFLAGS={user}", "CXXFLAGS=-O2"], {}):
-            is_front = any("/front/" in word for word in line)
-            found = [word for word in line if word in every]
-            wanted = (compiling if "-c" in line else linking) if is_front else set()
-            want(set(found), wanted, f"the flags of {line}")
-            if found:
-                last = max(map(line.index, found))
-                want(user.split()[-1] in line[last + 1:], True,
-                     f"whether {user} comes later in {line}")
+    for line in commands("solve", [f"CFLAGS={user}", "CXXFLAGS=-O2"], {}):
+        is_front = any(re.search("/lrup-(solve|check)/", word) for word in line)
+        found = [word for word in line if word in every]
+        wanted = (compiling if "-c" in line else linking) if is_front else set()
+        assert set(found) == wanted, line
+        if found:
+            last = max(map(line.index, found))
+            assert user.split()[-1] in line[last + 1:]
 
 
-def is_protected(work: Path) -> None:
+def test_the_front_is_protected(tmp_path: Path) -> None:
     """The front is loaded anywhere, with its tables read-only, and checks its stack and buffers."""
     needs("readelf")
-    front = work / "lrup-solve"
-    done = run(["make", "-s", "-C", ROOT, f"SOLVE={front}", f"OBJECTS={work}/objects", front],
+    front = tmp_path / "lrup-solve"
+    done = run(["make", "-s", "-C", ROOT, f"SOLVE={front}", f"OBJECTS={tmp_path}/objects", front],
                env=clean({}))
-    want((done.err, done.status), ("", 0), "make's output")
+    assert (done.err, done.status) == ("", 0)
     found = run(["readelf", "-W", "-hlds", front]).out
-    want([word for word in (r"Type:\s+DYN", "GNU_RELRO", r"FLAGS.*\bNOW\b", "__stack_chk_fail",
-                            r"__\w+_chk\b") if not re.search(word, found)],
-         [], f"what isn't found in\n{found[:2000]}")
+    for pattern in (r"Type:\s+DYN", "GNU_RELRO", r"FLAGS.*\bNOW\b", "__stack_chk_fail",
+                    r"__\w+_chk\b"):
+        assert re.search(pattern, found), pattern
 
 
 # Recompilation.
 
 
-def compiled(work: Path, words: Sequence[str] = ()) -> Set[str]:
+def compiled(tree: Path, words: Sequence[str] = ()) -> Set[str]:
     """The sources that make has compiled, and the program if it was linked."""
-    files = lambda: {path: path.stat().st_mtime_ns
-                     for path in [*work.rglob("*.o"), *work.rglob("bin/lrup-exact")]}
+    def files() -> Dict[Path, int]:
+        return {path: path.stat().st_mtime_ns
+                for path in [*tree.rglob("*.o"), *tree.rglob("bin/lrup-exact")]}
     before = files()
-    done = run(["make", "-s", "-j2", "exact", "CFLAGS=-O0", *words], cwd=work, env=clean({}))
-    want((done.out, done.err, done.status), ("", "", 0), "make's output")
+    done = run(["make", "-s", "-j2", "exact", "CFLAGS=-O0", *words], cwd=tree, env=clean({}))
+    assert (done.out, done.err, done.status) == ("", "", 0)
     return {path.stem for path, time in files().items() if before.get(path) != time}
 
 
-def including(header: str, folder: Path) -> Set[str]:
+def including(header: str, tools: Path) -> Set[str]:
     """The sources that include the header, directly or not."""
     found = {header}
     while True:
-        more = {path.name for path in folder.glob("*.[ch]")
+        more = {path.name for path in tools.glob("*/*.[ch]")
                 if any(f'"{name}"' in path.read_text() for name in found)} - found
         if not more:
-            return {name[:-2] for name in found if name.endswith(".c")}
+            return {name[:-2] for name in found if name.endswith(".c")} - {"lines"}
         found |= more
 
 
-def again(work: Path) -> None:
-    folder = work / "tools" / "exact"
-    shutil.copytree(ROOT / "tools" / "exact", folder)
-    (work / "docs").mkdir()
-    for name in ("Makefile", "VERSION", "docs/lrup-exact.1", "tools/help.awk"):
-        shutil.copy(ROOT / name, work / name)
-    every = {path.stem for path in folder.glob("*.c")} | {"lrup-exact"}
-    want((compiled(work), compiled(work)), (every, set()), "the files compiled at first, and then")
-    for name in ("hints.h", "errors.h", "lemmas.h"):
-        (folder / name).touch()
-        want(compiled(work), including(name, folder) | {"lrup-exact"},
-             f"the files recompiled after a change of {name}")
-    (folder / "words.c").touch()
-    want(compiled(work), {"words", "lrup-exact"}, "the files recompiled after a change of a source")
-    (folder / "lemmas.h").rename(folder / "other.h")
-    for path in folder.glob("*.c"):
+@pytest.fixture
+def tree(tmp_path: Path) -> Path:
+    """A copy of what lrup-exact is built from."""
+    for name in ("build", "lib", "filter", "lrup-exact"):
+        shutil.copytree(ROOT / "tools" / name, tmp_path / "tools" / name)
+    (tmp_path / "man").mkdir()
+    for name in ("Makefile", "VERSION", "man/lrup-exact.1"):
+        shutil.copy(ROOT / name, tmp_path / name)
+    return tmp_path
+
+
+def test_what_is_compiled_again(tree: Path) -> None:
+    tools = tree / "tools"
+    every = {path.stem for path in tools.glob("*/*.c")} - {"lines"} | {"lrup-exact"}
+    assert compiled(tree) == every
+    assert compiled(tree) == set()
+    for name in ("filter/hints.h", "lib/errors.h", "filter/lemmas.h"):
+        (tools / name).touch()
+        assert compiled(tree) == including(Path(name).name, tools) | {"lrup-exact"}
+    (tools / "lib" / "words.c").touch()
+    assert compiled(tree) == {"words", "lrup-exact"}
+    # A header is renamed.
+    (tools / "filter" / "lemmas.h").rename(tools / "filter" / "other.h")
+    for path in tools.glob("*/*.c"):
         path.write_text(path.read_text().replace('"lemmas.h"', '"other.h"'))
-    want(compiled(work), every, "the files compiled after a header is renamed")
-    want((compiled(work, ["CPPFLAGS=-DOTHER"]), compiled(work, ["CPPFLAGS=-DOTHER"])),
-         (every, set()), "the files recompiled with other flags")
-    want(compiled(work, ["CPPFLAGS=-DOTHER", "LDLIBS=-lm"]) >= {"lrup-exact"}, True,
-         "whether other libraries are linked")
+    assert compiled(tree) == every
+    # Flags and libraries change.
+    assert compiled(tree, ["CPPFLAGS=-DOTHER"]) == every
+    assert compiled(tree, ["CPPFLAGS=-DOTHER"]) == set()
+    assert "lrup-exact" in compiled(tree, ["CPPFLAGS=-DOTHER", "LDLIBS=-lm"])
+
+
+# Installed files.
 
 
 def in_its_build(words: Sequence[object]) -> Ran:
@@ -156,73 +169,67 @@ def in_its_build(words: Sequence[object]) -> Ran:
                    env=clean({}))
 
 
-def installed(work: Path) -> None:
+def test_install_and_uninstall(tmp_path: Path) -> None:
     """Installs built programs without the toolchain. `make -n install` changes nothing; `make
     install` installs each program, with a manual page and a completion, the pages and the
     examples. Uninstalling leaves nothing. A missing program is reported."""
-    program = written("#!/bin/sh\necho 'usage: lrupd [--lines N] [--help]'\n", work, "lrupd")
+    program, model = (written(f"#!/bin/sh\necho 'usage: {usage}'\n", tmp_path, usage.split()[0])
+                      for usage in ("lrupd [--lines N] [--help]", "lrup-model [--assume FILE]"))
     program.chmod(0o755)
-    make = lambda *more: in_its_build([*more, f"DESTDIR={work}/a place"])
-    want((make("-n", "install", f"PROGRAM={program}").status, (work / "a place").exists()),
-         (0, False), "the status of make -n install, and whether it makes the folder")
+    model.chmod(0o755)
+    place = tmp_path / "a place"
+
+    def files() -> List[Path]:
+        return [path for path in place.rglob("*") if path.is_file()]
+
+    def make(*more: str) -> Ran:
+        return in_its_build([*more, f"DESTDIR={place}"])
+    assert make("-n", "install", f"PROGRAM={program}").status == 0
+    assert not place.exists()
     done = make("install", f"PROGRAM={program}")
-    want((done.err, done.status), ("", 0), "the output of make install")
-    pages = work / "a place" / "usr/share/doc/lrupd"
-    files = {str(path.relative_to(work / "a place")) for path in (work / "a place").rglob("*")
-             if path.is_file() and pages not in path.parents}
+    assert (done.err, done.status) == ("", 0)
+    pages = place / "usr/share/doc/lrupd"
+    for name in ("README.md", "USING.md", "examples/fifo/bmc.sh", "examples/bmc.cnf"):
+        assert (pages / name).is_file()
     solving = {"lrup-solve", "lrup-check"} if "isn't built" not in done.out else set()
-    names = {"lrupd", "lrup-chain", "lrup-exact", "lrup-trim", "lrup-explain"} | solving
-    wanted = {f"usr/{place.format(name)}" for name in names for place in
+    names = {"lrupd", "lrup-model", "lrup-recheck", "lrup-exact", "lrup-trim",
+             "lrup-explain"} | solving
+    wanted = {f"usr/{form.format(name)}" for name in names for form in
               ("bin/{}", "share/man/man1/{}.1", "share/bash-completion/completions/{}")}
-    want(files - {"usr/libexec/lrupd/lrup-engines"}, wanted, "the files")
-    want([name for name in ("README.md", "USING.md", "examples/fifo/bmc.sh", "examples/bmc.cnf")
-          if not (pages / name).is_file()], [], "pages and examples that aren't there")
-    text = (work / "a place" / "usr/share/bash-completion/completions/lrupd").read_text()
-    want('-W "--help --lines"' in text, True, f"the options that are completed: {text}")
-    done = run([work / "a place" / "usr/bin/lrup-chain", "--version"])
-    want((done.err, done.status), (f"lrup-chain {(ROOT / 'VERSION').read_text().strip()}\n", 2),
-         "the output of lrup-chain --version")
-    want((make("uninstall").err,
-          [path for path in (work / "a place").rglob("*") if path.is_file()]),
-         ("", []), "the files left")
-    done = make("install", f"PROGRAM={work}/none")
-    want((done.status, f"{work}/none isn't built" in done.out), (2, True),
-         f"the message: {done.out}")
+    found = {str(path.relative_to(place)) for path in files() if pages not in path.parents}
+    assert found - {"usr/libexec/lrupd/lrup-engines"} == wanted
+    completion = (place / "usr/share/bash-completion/completions/lrupd").read_text()
+    assert '-W "--help --lines"' in completion
+    done = run([place / "usr/bin/lrup-recheck", "--version"])
+    version = (ROOT / "VERSION").read_text().strip()
+    assert (done.err, done.status) == (f"lrup-recheck {version}\n", 2)
+    assert make("uninstall").err == ""
+    assert files() == []
+    model.unlink()
+    for given, missing in ((tmp_path / "none", tmp_path / "none"), (program, model)):
+        done = make("install", f"PROGRAM={given}")
+        assert done.status == 2
+        assert f"{missing} isn't built" in done.out
 
 
-def packaged(work: Path) -> None:
+def test_the_packages_links(tmp_path: Path) -> None:
     """Each link on the package's pages leads to a file in the package."""
     for command in ("dpkg-deb", "dpkg-shlibdeps"):
         needs(command)
-    place = work / "package"
-    done = in_its_build(["install", f"PROGRAM={FILTER}", f"DESTDIR={place}"])
-    want((done.err, done.status), ("", 0), "the output of make install")
-    want(run(["sh", ROOT / "tools" / "deb.sh", place, "1"]).status, 0, "the status of deb.sh")
-    pages = [*(place / "usr/share/doc/lrupd").glob("**/*.md")]
-    links = [(page, target) for page in pages
+    place = tmp_path / "package"
+    done = in_its_build(["install", f"PROGRAM={FILTER}", f"MODEL={FILTER}", f"DESTDIR={place}"])
+    assert (done.err, done.status) == ("", 0)
+    done = run(["sh", ROOT / "tools" / "build" / "deb.sh", place, "1"])
+    assert done.status == 0, done.err
+    links = [(page, target) for page in (place / "usr/share/doc/lrupd").glob("**/*.md")
              for target in re.findall(r"\]\(([^)#]+)", page.read_text())]
-    want(len(links) > 10, True, f"whether {len(links)} links are enough")
-    want([(page.name, target) for page, target in links
-          if not target.startswith("http") and not (page.parent / target).exists()],
-         [], "links that lead nowhere")
+    assert len(links) > 10
+    for page, target in links:
+        assert target.startswith("http") or (page.parent / target).exists(), page
 
 
-def for_other_tests(work: Path) -> None:
+def test_builds_for_tests() -> None:
     """What other tests run is built now: while lrupd is being proved, they can't run."""
     built("solve", for_tests=True)
     for build in (sanitized_filter, sanitized_trim, sanitized_explain):
-        want(build().is_file(), True, f"whether {build.__name__} is there")
-
-
-def rows() -> List[Row]:
-    found: List[Row] = [("for other tests", for_other_tests), ("compiled again", again),
-                        ("installed", installed), ("packaged", packaged),
-                        ("the front's flags", protected), ("the front, protected", is_protected)]
-    for target in TARGETS:
-        found += [(f"{target}, flags of the {'environment' if by else 'command line'}", with_flags,
-                   target, by) for by in (True, False)]
-        found += [(f"{target}, no flags", usual, target)]
-    return found
-
-
-test_row = parametrized(rows())
+        assert build().is_file()

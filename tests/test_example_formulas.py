@@ -1,4 +1,4 @@
-"""Compares the formulas that examples' scripts write with other programs' answers on random input.
+"""The formulas that examples' scripts write, compared with other programs' answers on random input.
 
 Problems in SMT-LIB are compared with Z3's solver, lemmas on bit vectors with their values for all
 numbers of two bits, and bounded model checking with yosys's own. CaDiCaL solves the formulas, and
@@ -12,12 +12,13 @@ import sys
 from pathlib import Path
 from typing import Any, Callable, Dict, List, Optional, Tuple
 
-from harness import COUNT, EXAMPLES, Row, lacking, needs, parametrized, run, want, written
+import pytest
+
+from harness import EXAMPLES, lacking, needs, run, written
 
 SMT, LEMMA = EXAMPLES / "smt" / "smt2cnf.py", EXAMPLES / "lemma" / "lemma.py"
 BMC, SHOW = EXAMPLES / "fifo" / "bmc.sh", EXAMPLES / "show.awk"
-PROBLEMS = 50   # of a row
-ROWS = COUNT or 4
+PROBLEMS = 50   # of a seed
 
 
 def shown(formula: Path) -> Optional[Dict[str, str]]:
@@ -29,7 +30,7 @@ def shown(formula: Path) -> Optional[Dict[str, str]]:
     if done.status == 20:
         return None
     done = run([SHOW, formula, written(done.out, formula.parent, "answer")])
-    want((done.err, done.status), ("", 0), "show.awk's message and status")
+    assert (done.err, done.status) == ("", 0)
     found = dict(re.fullmatch(r"(\S+) = \d+'b([01]+)", line).groups()   # type: ignore
                  for line in done.out.splitlines())
     return found
@@ -99,13 +100,14 @@ def problem(numbers: random.Random) -> str:
                               for _ in range(numbers.randrange(1, 7)))
 
 
-def problems(seed: int, work: Path) -> None:
+@pytest.mark.seeds(4)
+def test_problems_in_smt_lib(seed: int, tmp_path: Path) -> None:
     """Z3's solver and CaDiCaL agree. The counterexample's values, asserted in the problem, are one
     for Z3, too."""
     try:
         import z3
     except ImportError:
-        return lacking("there is no module z3")
+        lacking("there is no module z3")
     found = importlib.util.spec_from_file_location("smt2cnf", SMT)
     assert found and found.loader
     smt2cnf: Any = importlib.util.module_from_spec(found)
@@ -118,23 +120,23 @@ def problems(seed: int, work: Path) -> None:
         return str(solver.check())
     for _ in range(PROBLEMS):
         text = problem(numbers)
-        formula = written("\n".join(smt2cnf.formula(text + "(check-sat)\n")) + "\n", work)
+        formula = written("\n".join(smt2cnf.formula(text + "(check-sat)\n")) + "\n", tmp_path)
         if not re.search("^c ", formula.read_text(), re.M) and answer(text) == "sat":
             continue    # no word is used: show.awk has nothing to show
         values = shown(formula)
-        want("unsat" if values is None else "sat", answer(text), f"the answer for\n{text}")
+        assert answer(text) == ("unsat" if values is None else "sat"), text
         for name, bits in (values or {}).items():
             name = name.replace("%20", " ").replace("%5B", "[").replace("%5D", "]")
             value = f"#b{bits}" if name[0] in "xy" else "true" if bits == "1" else "false"
             text += f"(assert (= |{name}| {value}))\n"
-        want("unsat" if values is None else "sat", answer(text), f"the answer for\n{text}")
+        assert answer(text) == ("unsat" if values is None else "sat"), text
 
 
 # Lemmas on numbers of two bits.
 
 Valued = Tuple[str, Callable[[Dict[str, int]], int]]
 WIDTH = 2
-ALL = 2 ** WIDTH - 1
+ALL = (1 << WIDTH) - 1
 CONNECTIVES: List[Tuple[str, Callable[[int, int], int]]] = [
     ("&", lambda x, y: x & y), ("|", lambda x, y: x | y), ("^", lambda x, y: x ^ y)]
 ON_NUMBERS: List[Tuple[str, Callable[[int, int], int]]] = [
@@ -179,20 +181,21 @@ def statement(numbers: random.Random, depth: int) -> Valued:
                   number(numbers, depth - 1))
 
 
-def lemmas(seed: int, work: Path) -> None:
+@pytest.mark.seeds(4)
+def test_lemmas(seed: int, tmp_path: Path) -> None:
     numbers = random.Random(seed)
     for _ in range(PROBLEMS // 2):
         text, value = statement(numbers, 4)
         done = run([sys.executable, LEMMA, WIDTH, text])
-        want((done.err, done.status), ("", 0), f"what lemma.py says on {text}")
+        assert (done.err, done.status) == ("", 0), text
         holds = all(value(dict(zip("abcd", values)))
                     for values in itertools.product(range(ALL + 1), repeat=4))
         if holds or not re.search("^c ", done.out, re.M):
             continue
-        found = shown(written(done.out, work))
+        found = shown(written(done.out, tmp_path))
         assert found is not None, f"{text} has a counterexample"
         names = {name: int(bits, 2) for name, bits in found.items()}
-        want(value({**dict.fromkeys("abcd", 0), **names}), 0, f"{text} with {names}")
+        assert value({**dict.fromkeys("abcd", 0), **names}) == 0, f"{text} with {names}"
 
 
 # Circuits.
@@ -214,26 +217,20 @@ CIRCUITS = {"a queue": FIFO, "a queue without a limit": FIFO.replace("push && !f
             SHIFTED.replace("began = 0", "began = 1").replace("last == 5", "last[0]")}
 
 
-def checked(text: str, depth: int, work: Path) -> None:
+@pytest.mark.parametrize("depth", range(2, 9))
+@pytest.mark.parametrize("text", [pytest.param(text, id=name) for name, text in CIRCUITS.items()])
+def test_bounded_model_checking(text: str, depth: int, tmp_path: Path) -> None:
     """The formula of bmc.sh is satisfiable if the one of yosys's own command `sat` is."""
     needs("yosys")
-    circuit, formula, own = written(text, work, "one.v"), work / "one.cnf", work / "own.cnf"
-    want(run([BMC, circuit, depth, formula])[1:], ("", 0), "what bmc.sh says")
+    circuit = written(text, tmp_path, "one.v")
+    formula, own = tmp_path / "one.cnf", tmp_path / "own.cnf"
+    done = run([BMC, circuit, depth, formula])
+    assert (done.err, done.status) == ("", 0)
     script = (f"hierarchy -auto-top; proc; memory; flatten; techmap; opt; sat -timeout 1 -seq "
               f"{depth} -set-at 1 reset 1 -prove bad 0 -prove-skip 1 -dump_cnf {own}")
     run(["yosys", "-q", "-f", "verilog", "-p", script, circuit])
     needs("cadical")
     values = shown(formula)
-    want(10 if values is not None else 20, run(["cadical", "-q", own]).status, "the status")
+    assert run(["cadical", "-q", own]).status == (20 if values is None else 10)
     if values is not None:
         assert any(values[f"bad@{step}"] == "1" for step in range(2, depth + 1)), values
-
-
-def rows() -> List[Row]:
-    return ([(f"problems in SMT-LIB, {seed}", problems, seed) for seed in range(ROWS)]
-            + [(f"lemmas, {seed}", lemmas, seed) for seed in range(ROWS)]
-            + [(f"{name}, {depth} steps", checked, text, depth)
-               for name, text in CIRCUITS.items() for depth in (2, 3, 4, 5, 6, 7, 8)])
-
-
-test_row = parametrized(rows())

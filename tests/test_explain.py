@@ -1,14 +1,14 @@
-"""Runs lrup-explain, and compares what it says with what lrupd says about the same streams.
+"""lrup-explain: what it says about streams, compared with what lrupd says.
 
-There are 2,000 (or --count) faulty runs of one to five solvers: hints are left out, doubled and
-reordered, literals get wrong signs, deletions and imports are inserted, or bytes are garbled. Then
-come 1,000 (or --count) mutants of test_filter_mutants.py, most of which don't have a stream's form.
-For each stream, the fault and its line have to be those that lrupd --serial reports; if no stream
-deletes what others cite, lrupd has to report the same faults with threads, too. Each chain that is
-offered has to be right: lrupd accepts the line with this chain as its hints. If only hints are
-wrong, a chain has to be offered. lrup-explain also has to end while streams are rewritten and
-truncated. It is built for tests, with -fsanitize=address,undefined if the compiler supports it;
-three of four runs on faulty streams use the normal build."""
+There are faulty runs of one to five solvers: hints are left out, doubled and reordered, literals
+get wrong signs, deletions and imports are inserted, or bytes are garbled. Then come mutants of
+test_filter_mutants.py, most of which don't have a stream's form. For each stream, the fault and its
+line have to be those that lrupd --serial reports; if no stream deletes what others cite, lrupd has
+to report the same faults with threads, too. Each chain that is offered has to be right: lrupd
+accepts the line with this chain as its hints. If only hints are wrong, a chain has to be offered.
+lrup-explain also has to end while streams are rewritten and truncated. It is built for tests, with
+-fsanitize=address,undefined if the compiler supports it; three of four runs on faulty streams use
+the normal build."""
 import functools
 import os
 import random
@@ -19,17 +19,19 @@ import tempfile
 from pathlib import Path
 from typing import Callable, Dict, List, NamedTuple, Optional, Sequence, Set, Tuple
 
+import pytest
+
 from faulty import garbled_text, refuted
-from harness import (AGAIN_IF_LATE, COMPRESSED, COUNT, EXAMPLES, EXPLAIN, FOUR, PROGRAM, ROOT,
-                     SANITIZING, Ran, Row, compiler, enough_for, example, generated, parametrized,
-                     piped, run, sanitized_explain, want, written)
+from harness import (COMPRESSED, EXAMPLES, EXPLAIN, FOUR, ROOT, SANITIZING, Ran, compiler,
+                     enough_for, example, generated, named, piped, run, sanitized_explain, written)
 from rewriting import cut_while_read, withstands
 from test_filter_mutants import Mutant, proofs
 
-PAGE = ROOT / "docs" / "lrup-explain.1"
+PAGE = ROOT / "man" / "lrup-explain.1"
+FOUR_SOLVERS = [f"bmc-four.{number}" for number in range(1, 5)]
 BAD = 3         # the status if a line is bad
 # The sources that the example solver shares with the filter.
-LIBRARY = [ROOT / "tools" / "exact" / name
+LIBRARY = [ROOT / "tools" / "lib" / name
            for name in ("errors.c", "formula.c", "lists.c", "literals.c", "packed.c")]
 QUICK = 4       # one run in four uses the build for tests
 TRIES = 20000   # so that waiting for a clause that never comes takes a second
@@ -37,9 +39,9 @@ TRIES = 20000   # so that waiting for a clause that never comes takes a second
 Faults = Dict[int, Tuple[int, str]]     # by stream: the line, and the fault's words
 
 
-def explain(words: Sequence[object], work: Path, quick: bool = False) -> Ran:
+def explain(words: Sequence[object], tmp_path: Path, quick: bool = False) -> Ran:
     """Runs the build for tests, or the normal one, which is faster."""
-    return run([EXPLAIN if quick else sanitized_explain(), *words], cwd=work,
+    return run([EXPLAIN if quick else sanitized_explain(), *words], cwd=tmp_path,
                env={**os.environ, **SANITIZING})
 
 
@@ -53,8 +55,9 @@ CHAIN = re.compile(r"^  a right chain:((?: \d+)*)(?:    \(if (\d+) isn't deleted
 
 def faults_in(done: Ran) -> Faults:
     found = {int(stream): (int(line), words) for stream, line, words in TITLE.findall(done.out)}
-    want((done.err, done.status), ("", BAD if found else 0), "standard error, and the status")
-    want(done.out == "no line is bad\n", not found, f"whether no line is bad, in\n{done.out}")
+    assert (done.err, done.status) == ("", BAD if found else 0)
+    if not found:
+        assert done.out == "no line is bad\n"
     return found
 
 
@@ -203,47 +206,47 @@ def mended(done: Ran, texts: List[str], clauses: int) -> Optional[Tuple[int, int
     chain, title = CHAIN.search(done.out), TITLE.search(done.out)
     if not chain or not title:
         return None
-    stream, number, fault = int(title[1]) - 1, int(title[2]), title[3]
+    stream, number, test_faults = int(title[1]) - 1, int(title[2]), title[3]
     texts = list(texts)
     lines = texts[stream].split("\n")
     words = lines[number - 1].split(" ")
     lines[number - 1] = " ".join([*words[:words.index("0") + 1], *chain[1].split(), "0"])
     texts[stream] = "\n".join(lines)
     if chain[2]:
-        deleting = (stream if fault.startswith("dropped")
+        deleting = (stream if test_faults.startswith("dropped")
                     else (int(chain[2]) - clauses - 1) % len(texts))
         texts[deleting] = without_identity(texts[deleting], chain[2])
     return stream + 1, number, texts
 
 
-def are_mended(done: Ran, texts: List[str], options: Sequence[str], formula: Path, clauses: int,
-               work: Path) -> None:
+def want_mended(program: str, done: Ran, texts: List[str], options: Sequence[str], formula: Path,
+                clauses: int, folder: Path) -> None:
+    """With the chain that is offered, if any, lrupd accepts the line."""
     found = mended(done, texts, clauses)
     if not found:
         return
     stream, number, now = found
-    paths = [written(text.encode("latin-1"), work, f"mended{place}")
+    paths = [written(text.encode("latin-1"), folder, f"mended{place}")
              for place, text in enumerate(now, 1)]
-    line, words = reported(run([PROGRAM, "--serial", *options, formula, *paths])).get(
-        stream, (1 << 62, ""))
-    want(line > number, True,
-         f"lrupd says {words} of line {line} of stream {stream}, with the chain of\n{done.out}")
+    faults = reported(run([program, "--serial", *options, formula, *paths]))
+    assert stream not in faults or faults[stream][0] > number, done.out
 
 
-def compared(texts: List[str], options: Sequence[str], formula: Path, clauses: int, quick: bool,
-             work: Path) -> Ran:
-    """Compares the faults with those of lrupd --serial."""
-    paths = [written(text.encode("latin-1"), work, f"s{place}")
+def compared(program: str, texts: List[str], options: Sequence[str], formula: Path, clauses: int,
+             quick: bool, folder: Path) -> Ran:
+    """What lrup-explain says; the faults have to be those of lrupd --serial."""
+    paths = [written(text.encode("latin-1"), folder, f"s{place}")
              for place, text in enumerate(texts, 1)]
     options = options or enough_for(paths)
-    done = explain(["--serial", *options, formula, *paths], work, quick)
-    want(faults_in(done), reported(run([PROGRAM, "--serial", *options, formula, *paths])),
-         f"the faults with {options}, in\n{done.out}")
-    are_mended(done, texts, options, formula, clauses, work)
+    done = explain(["--serial", *options, formula, *paths], folder, quick)
+    lrupd = run([program, "--serial", *options, formula, *paths])
+    assert faults_in(done) == reported(lrupd), done.out
+    want_mended(program, done, texts, options, formula, clauses, folder)
     return done
 
 
-def faulty(seed: int, work: Path) -> None:
+@pytest.mark.seeds(2000)
+def test_faulty_streams(program: str, seed: int, tmp_path: Path) -> None:
     numbers = random.Random(f"{seed} faulty")
     found = base(seed % BASES)
     texts = found.streams
@@ -252,13 +255,16 @@ def faulty(seed: int, work: Path) -> None:
     if numbers.random() < 0.3:
         at = numbers.randrange(len(texts))
         texts = [*texts[:at], garbled_text(texts[at], numbers), *texts[at + 1:]]
-    formula = written(found.formula, work)
-    compared(texts, sizes_for(found, numbers), formula, found.clauses, seed % QUICK != 0, work)
+    formula = written(found.formula, tmp_path)
+    compared(program, texts, sizes_for(found, numbers), formula, found.clauses, seed % QUICK != 0,
+             tmp_path)
 
 
-def other_hints_alone(seed: int, work: Path) -> None:
-    """One solver, without deletions: a chain is offered for each bad line until all lines are
-    right."""
+@pytest.mark.seeds(100)
+def test_a_chain_is_offered_if_only_hints_are_wrong(program: str, seed: int,
+                                                    tmp_path: Path) -> None:
+    """One solver, without deletions, and at most three bad lines: each gets the chain that is
+    offered."""
     numbers = random.Random(f"{seed} hints")
     found = base(5 * numbers.randrange(BASES // 5))
     text = "".join(line + "\n" for line in found.streams[0].splitlines() if line.split()[1] == "a"
@@ -266,15 +272,16 @@ def other_hints_alone(seed: int, work: Path) -> None:
     texts = [text]
     for _ in range(3):
         texts = with_a_fault(texts, numbers, hints_only=True)
-    formula = written(found.formula, work)
-    for _ in range(4):
-        done = compared(texts, [], formula, found.clauses, True, work)
+    formula = written(found.formula, tmp_path)
+    for _ in range(3):
+        done = compared(program, texts, [], formula, found.clauses, True, tmp_path)
         if not faults_in(done):
             return
         now = mended(done, texts, found.clauses)
-        assert now, f"no chain is offered in\n{done.out}"
+        assert now, done.out
         texts = now[2]
-    raise AssertionError("more lines than three were bad")
+    done = compared(program, texts, [], formula, found.clauses, True, tmp_path)
+    assert faults_in(done) == {}
 
 
 # Threads.
@@ -297,41 +304,45 @@ def deleted_by(text: str) -> Set[int]:
             for word in line.split()[2:-1] if word.isdigit()}
 
 
-def with_threads(seed: int, work: Path) -> None:
+@pytest.mark.seeds(100)
+def test_threads(program: str, seed: int, tmp_path: Path) -> None:
     """No stream deletes a clause of its own that others cite, so threads can give only one
     report."""
     numbers = random.Random(f"{seed} threads")
     found = base(1 + seed % (BASES - 1))
     texts = with_a_fault(found.streams, numbers)
     count = len(texts)
-    owner = lambda identity: ((identity - found.clauses - 1) % count
-                              if identity > found.clauses else -1)
+
+    def owner(identity: int) -> int:
+        return (identity - found.clauses - 1) % count if identity > found.clauses else -1
     for number, text in enumerate(texts):
         others = set().union(*(cited_by(other) for place, other in enumerate(texts)
                                if place != number))
         for identity in deleted_by(text) & others:
             if owner(identity) == number:
                 texts[number] = without_identity(texts[number], str(identity))
-    formula = written(found.formula, work)
-    paths = [written(text, work, f"s{place}") for place, text in enumerate(texts, 1)]
+    formula = written(found.formula, tmp_path)
+    paths = [written(text, tmp_path, f"s{place}") for place, text in enumerate(texts, 1)]
     words = ["--tries", TRIES, *enough_for(paths), formula, *paths]
-    done = explain(words, work)
-    want(faults_in(done), reported(run([PROGRAM, *words])), f"the faults in\n{done.out}")
+    done = explain(words, tmp_path)
+    assert faults_in(done) == reported(run([program, *words])), done.out
 
 
-def mutant(number: int, work: Path) -> None:
+@pytest.mark.seeds(1000)
+def test_mutants(program: str, seed: int, tmp_path: Path) -> None:
     """The proof of a mutant of test_filter_mutants.py, as a stream."""
-    found = Mutant(number, proofs(), work)
-    names = [written(found.proof, work, "stream") if place == found.stream else Path("/dev/null")
+    found = Mutant(seed, proofs(), tmp_path)
+    stream = written(found.proof, tmp_path, "stream")
+    names = [stream if place == found.stream else "/dev/null"
              for place in range(1, found.streams + 1)]
     words = ["--serial", *enough_for([found.proof]), found.formula, *names]
-    said = run([PROGRAM, *words])
-    done = explain(words, work, number % QUICK != 0)
-    if done.status == 1:    # not a formula
-        want((done.out, done.err.count("\n"), said.status), ("", 1, 4),
-             f"the messages\n{done.err}{said}")
-        return
-    want(faults_in(done), reported(said), f"the faults in\n{done.out}")
+    lrupd = run([program, *words])
+    done = explain(words, tmp_path, seed % QUICK != 0)
+    if lrupd.status == 4:    # not a formula
+        assert (done.out, done.status) == ("", 1)
+        assert done.err.count("\n") == 1
+    else:
+        assert faults_in(done) == reported(lrupd), done.out
 
 
 # Faults by hand.
@@ -358,9 +369,8 @@ NO_CHAIN = ("  no chain: unit propagation over all clauses that the line may cit
             "is missing\n")
 EMPTY = "  derives  the empty clause\n" + HINTS
 
-# The name, the streams, the options, and the explanation; the formula is the four clauses over two
-# variables.
-FAULTS = [
+# The formula is the four clauses over two variables.
+@pytest.mark.parametrize("streams, options, said", named([
     ("excess", ["5 2 0 1 2 3 4 0\n"], "", "stream 1 (f1), line 1: excess 3\n" + ONE_FALSE
      + row(2, "conflict", "-1F 2F", of_formula(2)) + row(3, "BAD", "1T -2T", of_formula(3))
      + "        4  unread\n"
@@ -547,19 +557,17 @@ FAULTS = [
      "       valid here: 6, or after a gap 8, 10 and so on\n"),
     ("an import that was dropped", ["1 d 2 0\n2 i -1 2 0\n"], "",
      "stream 1 (f1), line 2: dropped 2\n  states   -1 2\n"
-     "  why: this stream deleted 2 in its line 1, for this stream only\n"),
-]
-
-
-def form(text: str, words: str, why: str, shown: str, place: int, work: Path) -> None:
-    """Explains a misspelled line, showing its bytes."""
-    stream = written(text.encode("latin-1"), work, "f1")
-    shown, caret = shown, " " * shown.index("^") + f"^ byte {place}"
-    wanted = (f"stream 1 (f1), line 1: {words}\n  why: {why}\n      {shown.replace('^', '')}\n"
-              f"      {caret}\n")
-    done = explain([written(FOUR, work), stream.name], work)
-    want((done.out[:len(wanted)], done.err, done.status), (wanted, "", BAD), "the messages")
-    want(reported(run([PROGRAM, written(FOUR, work), stream])), {1: (1, words)}, "lrupd's answer")
+     "  why: this stream deleted 2 in its line 1, for this stream only\n")]))
+def test_faults(program: str, streams: Sequence[str], options: str, said: str,
+                tmp_path: Path) -> None:
+    """lrupd reports the same fault with threads and with --serial, and waits only a moment for a
+    clause that never comes."""
+    names = [written(text, tmp_path, f"f{number}").name for number, text in enumerate(streams, 1)]
+    words = [*options.split(), written(FOUR, tmp_path), *names]
+    done = explain(words, tmp_path)
+    assert done == Ran(said, "", BAD)
+    lrupds = [word for word in words if word != "--all"]
+    assert faults_in(done) == reported(run([program, "--tries", TRIES, *lrupds], cwd=tmp_path))
 
 
 PLACE = "expected {1}, found {0}"
@@ -607,54 +615,56 @@ FORMS = [
      "65538 identities, 2 too many: a line may have 65536", ".." + "1 " * 24 + "^1 1 0",
      2 * 65536 + 5),
     ("2 i " + "1 " * 65536 + "0\n", "too long", "65536 literals, 1 too many: a line may have 65535",
-     ".." + "1 " * 24 + "^1 0", 2 * 65535 + 5),
-]
+     ".." + "1 " * 24 + "^1 0", 2 * 65535 + 5)]
 
 
-def fault(streams: Sequence[str], options: str, said: str, work: Path) -> None:
-    """Explains a fault; lrupd reports the same fault with threads and with --serial, and waits only
-    a moment for a clause that never comes."""
-    names = [written(text, work, f"f{number}").name for number, text in enumerate(streams, 1)]
-    words = [*options.split(), written(FOUR, work), *names]
-    done = explain(words, work)
-    want(done, Ran(said, "", BAD), "the messages")
-    lrupds = [word for word in words if word != "--all"]
-    want(faults_in(done),
-         reported(run([PROGRAM, "--tries", TRIES, *lrupds], cwd=work)), "the faults")
+@pytest.mark.parametrize("text, words, why, shown, place",
+                         [pytest.param(*form, id=repr(form[0][:40])) for form in FORMS])
+def test_misspelled_lines(program: str, text: str, words: str, why: str, shown: str, place: int,
+                          tmp_path: Path) -> None:
+    """The explanation shows the line's bytes."""
+    formula, stream = written(FOUR, tmp_path), written(text.encode("latin-1"), tmp_path, "f1")
+    caret = " " * shown.index("^") + f"^ byte {place}"
+    done = explain([formula, stream.name], tmp_path)
+    assert (done.err, done.status) == ("", BAD)
+    assert done.out.startswith(
+        f"stream 1 (f1), line 1: {words}\n  why: {why}\n      {shown.replace('^', '')}\n"
+        f"      {caret}\n")
+    assert reported(run([program, formula, stream])) == {1: (1, words)}
 
 
-def good(words: Sequence[object], work: Path) -> None:
-    want(explain(words, work), Ran("no line is bad\n", "", 0), "the messages")
+@pytest.mark.parametrize("streams", [pytest.param(["bmc.lrup"], id="one"),
+                                     pytest.param(FOUR_SOLVERS, id="four")])
+def test_good_streams(streams: Sequence[str], tmp_path: Path) -> None:
+    done = explain([example("bmc.cnf"), *map(example, streams)], tmp_path)
+    assert done == Ran("no line is bad\n", "", 0)
 
 
 # Records of rounds.
 
 
-def in_rounds(number: int, work: Path) -> None:
+@pytest.mark.seeds(40)
+def test_rounds(program: str, seed: int, tmp_path: Path) -> None:
     """Two solvers in three rounds, with a fault in one round; the rounds after that one are
     removed."""
-    numbers = random.Random(f"{number} rounds")
-    formula, streams = (example("pigeonhole.cnf"),
-                        [example("pigeonhole-two.1"), example("pigeonhole-two.2")])
-    want(run([sys.executable, EXAMPLES / "chain.py", 3, formula, work / "d", *streams]),
-         Ran("", "", 0), "chain.py's output")
-    bad = 1 + number % 3
-    names = [work / "d" / f"round-{bad}.stream-{stream}" for stream in (1, 2)]
+    numbers = random.Random(f"{seed} rounds")
+    formula = example("pigeonhole.cnf")
+    cut = run([sys.executable, EXAMPLES / "chain.py", 3, formula, tmp_path / "d",
+               example("pigeonhole-two.1"), example("pigeonhole-two.2")])
+    assert cut == Ran("", "", 0)
+    bad = 1 + seed % 3
+    names = [tmp_path / "d" / f"round-{bad}.stream-{stream}" for stream in (1, 2)]
     for path, text in zip(names, with_a_fault([path.read_text() for path in names], numbers)):
         path.write_text(text)
     for later in range(bad + 1, 4):
-        for path in (work / "d").glob(f"round-{later}.*"):
+        for path in (tmp_path / "d").glob(f"round-{later}.*"):
             path.unlink()
-    lines, room = ([int(word) for word in (work / "d" / "round-1.sizes").read_text().split()[1:]]
-                   if bad == 0 else (65536, 1048576))
-    done = explain(["--serial", formula, "d"], work)
-    words = ["--serial", "--lines", lines, "--room", room, "--rounds", "d", formula,
-             "d/round-1.stream-1", "d/round-1.stream-2"]
-    said = run([PROGRAM, *words], cwd=work)
-    want(faults_in(done), reported(said), f"the faults in\n{done.out}{said}")
-    for round_number, stream in re.findall(r"^(?:round (\d+), )?stream (\d+)", done.out, re.M):
-        want(f"c round {round_number}\n" in said.out if round_number else "c round" not in said.out,
-             True, f"the round of {stream}")
+    done = explain(["--serial", formula, "d"], tmp_path)
+    lrupd = run([program, "--serial", "--rounds", "d", formula, "d/round-1.stream-1",
+                 "d/round-1.stream-2"], cwd=tmp_path)
+    assert faults_in(done) == reported(lrupd), done.out
+    rounds = set(re.findall(r"^(?:round (\d+), )?stream \d+", done.out, re.M))
+    assert rounds <= set(re.findall(r"^c round (\d+)$", lrupd.out, re.M) or [""])
 
 
 CARRIED = {"round-1.stream-1": FIRST + "4 d 1 2 0\n", "round-2.sizes": "2 5 5\n",
@@ -669,11 +679,11 @@ SAID_OF_CARRIED = (
     "--all says why\n")
 
 
-def carried(work: Path) -> None:
+def test_carried_clauses(tmp_path: Path) -> None:
     """A clause that is carried over from the previous round is described by its origin."""
     for name, text in CARRIED.items():
-        written(text, work, f"d/{name}")
-    want(explain([written(FOUR, work), "d"], work), Ran(SAID_OF_CARRIED, "", BAD), "the messages")
+        written(text, tmp_path, f"d/{name}")
+    assert explain([written(FOUR, tmp_path), "d"], tmp_path) == Ran(SAID_OF_CARRIED, "", BAD)
 
 
 # The example solver leaves out a hint: the last of a chain's unit clauses of level 0.
@@ -684,71 +694,59 @@ LEFT_OUT = (r"^       (-?\d+ would follow here from|"
 WRONG_LINE = "for (size_t k = 1; k < level_zero.length; k++) PUSH(hints, level_zero.items[k]);"
 
 
-def emitter(work: Path) -> None:
+def test_the_example_solver_with_a_hint_left_out(program: str, tmp_path: Path) -> None:
     """If each bad line gets the hints that are offered for it, the stream becomes good."""
     learn = (EXAMPLES / "solver" / "learn.c").read_text()
-    want(learn.count(RIGHT_LINE), 1, f"how many times learn.c has '{RIGHT_LINE}'")
-    sources = shutil.copytree(EXAMPLES / "solver", work / "solver",
+    assert learn.count(RIGHT_LINE) == 1
+    sources = shutil.copytree(EXAMPLES / "solver", tmp_path / "solver",
                               ignore=shutil.ignore_patterns("out"))
     written(learn.replace(RIGHT_LINE, WRONG_LINE), sources, "learn.c")
-    wrong = work / "wrong"
-    flags = compiler("-std=c11", "-O1", "-pthread", "-I", str(ROOT / "tools" / "exact"))
-    want(run([*flags, "-o", wrong, *sources.glob("*.c"), *LIBRARY]).status, 0,
-         "the compiler's status")
-    formula = generated("random 70 1 6", work)
-    want(run([wrong, formula, work / "stream"]).status, 20, "the solver's status")
-    texts, clauses, mended_lines = ([(work / "stream").read_text()],
-                                    int(formula.read_text().split()[3]), 0)
+    wrong = tmp_path / "wrong"
+    flags = compiler("-std=c11", "-O1", "-pthread", "-I", str(ROOT / "tools" / "lib"))
+    assert run([*flags, "-o", wrong, *sources.glob("*.c"), *LIBRARY]).status == 0
+    formula = generated("random 70 1 6", tmp_path)
+    assert run([wrong, formula, tmp_path / "stream"]).status == 20
+    texts, clauses = [(tmp_path / "stream").read_text()], int(formula.read_text().split()[3])
+    mended_lines = 0
     for _ in range(200):
-        done = compared(texts, [], formula, clauses, True, work)
+        done = compared(program, texts, [], formula, clauses, True, tmp_path)
         if not faults_in(done):
             break
         found = mended(done, texts, clauses)
-        follows = re.search(LEFT_OUT, done.out, re.M)
-        assert found and follows, f"the output doesn't say what is left out:\n{done.out}"
+        assert found, done.out
+        assert re.search(LEFT_OUT, done.out, re.M)
         texts, mended_lines = found[2], mended_lines + 1
-    want((faults_in(done), mended_lines > 0), ({}, True),
-         "the faults, and whether lines were mended")
-    want(run([PROGRAM, formula, written(texts[0], work, "right")]).status, 0,
-         "lrupd's status in the end")
+    assert faults_in(done) == {}
+    assert mended_lines > 0
+    assert run([program, formula, written(texts[0], tmp_path, "right")]).status == 0
 
 
 # Arguments and files.
 
-def on_the_page(work: Path) -> None:
+
+def test_the_manuals_example(tmp_path: Path) -> None:
     """The manual page's example is the beginning of the output, which USING has in full."""
-    paths = [shutil.copy(example(f"bmc-four.{number}"), work / f"f{number}.lrup")
-             for number in range(1, 5)]
+    paths = [shutil.copy(example(name), tmp_path / f"f{number}.lrup")
+             for number, name in enumerate(FOUR_SOLVERS, 1)]
     lines = paths[1].read_text().splitlines(True)
     lines[59] = lines[59].replace(" 207 ", " ")
     paths[1].write_text("".join(lines))
-    done = explain([example("bmc.cnf"), *(path.name for path in paths)], work)
+    done = explain([example("bmc.cnf"), *(path.name for path in paths)], tmp_path)
     shown = "".join(done.out.splitlines(True)[:11])
-    want(shown in PAGE.read_text(), True, f"whether lrup-explain.1 has\n{shown}")
+    assert shown in PAGE.read_text()
 
 
-def cut(work: Path) -> None:
-    cut_while_read([EXPLAIN, "--lines", 10 ** 6], "lrup-explain", work)
+def test_a_file_that_is_cut(tmp_path: Path) -> None:
+    cut_while_read([EXPLAIN, "--lines", 10 ** 6], "lrup-explain", tmp_path)
 
 
-def while_rewritten(seed: int, work: Path) -> None:
+@pytest.mark.parametrize("seed", range(4))
+def test_files_that_are_rewritten(seed: int, tmp_path: Path) -> None:
     command = lambda number, _: [sanitized_explain(), "--all" if number % 2 else "--serial"]
-    withstands(command, (0, 1, BAD), 30, seed, work)
+    withstands(command, (0, 1, BAD), 30, seed, tmp_path)
 
 
-def refuses(words: str, status: int, said: str, work: Path) -> None:
-    """Runs in a folder with a formula f, a stream s, a pipe p, a folder d without rounds, and a
-    compressed formula z."""
-    for name, text in {"f": FOUR.encode(), "s": FIRST.encode(), "z": COMPRESSED["zcat"]}.items():
-        written(text, work, name)
-    piped(work / "p")
-    (work / "d").mkdir()
-    done = explain(words.split(), work)
-    want((done.out, done.err.splitlines()[-1:], done.status),
-         ("", [f"lrup-explain: {said}"], status), "the messages")
-
-
-REFUSED = [
+@pytest.mark.parametrize("words, status, said", [
     ("", 2, "error: no FORMULA"), ("f", 2, "error: no DIR or STREAM"),
     ("--line 1 f s", 2, "error: no such option: --line"),
     ("--lines", 2, "error: no value after --lines"),
@@ -765,44 +763,35 @@ REFUSED = [
     ("z s", 1, "z: compressed: unpack it with zcat"),
     ("--lines 268435456 f s", 1,
      "row too long: 269484045 words, but lrupd takes at most 268435456: use smaller --lines or "
-     "--room")]
+     "--room")])
+def test_refused(words: str, status: int, said: str, tmp_path: Path) -> None:
+    """Runs in a folder with a formula f, a stream s, a pipe p, a folder d without rounds, and a
+    compressed formula z."""
+    for name, text in {"f": FOUR.encode(), "s": FIRST.encode(), "z": COMPRESSED["zcat"]}.items():
+        written(text, tmp_path, name)
+    piped(tmp_path / "p")
+    (tmp_path / "d").mkdir()
+    done = explain(words.split(), tmp_path)
+    assert (done.out, done.status) == ("", status)
+    assert done.err.splitlines()[-1] == f"lrup-explain: {said}"
 
 
-def compressed(program: str, work: Path) -> None:
+@pytest.mark.parametrize("unpacker", COMPRESSED)
+def test_compressed(unpacker: str, tmp_path: Path) -> None:
     """A compressed stream: lrupd says that its first byte is misspelled."""
-    stream = written(COMPRESSED[program], work, "f1")
-    done = explain([written(FOUR, work), "f1"], work)
-    want((faults_in(done), done.out.splitlines()[-1]),
-         ({1: (1, "spelling")}, f"       compressed: unpack it with {program}"), "the messages")
+    written(COMPRESSED[unpacker], tmp_path, "f1")
+    done = explain([written(FOUR, tmp_path), "f1"], tmp_path)
+    assert faults_in(done) == {1: (1, "spelling")}
+    assert done.out.splitlines()[-1] == f"       compressed: unpack it with {unpacker}"
 
 
-def help_of(work: Path) -> None:
-    for word in ("--help", "-h"):
-        done = explain([word], work)
-        want((done.out[:20], done.err, done.status), ("usage: lrup-explain ", "", 0), word)
+@pytest.mark.parametrize("word", ["--help", "-h"])
+def test_help(word: str, tmp_path: Path) -> None:
+    done = explain([word], tmp_path)
+    assert done.out.startswith("usage: lrup-explain ")
+    assert (done.err, done.status) == ("", 0)
+
+
+def test_version() -> None:
     version = (ROOT / "VERSION").read_text().strip()
-    want(run([EXPLAIN, "--version"]), Ran(f"lrup-explain {version}\n", "", 0), "--version")
-
-
-def rows(count: int, mutants: int) -> List[Row]:
-    found: List[Row] = [("the example solver, a hint left out", emitter),
-                        ("carried clauses", carried), ("help", help_of),
-                        ("the manual page", on_the_page), ("a file that is cut", cut)]
-    found += [(f"rewritten {seed}", while_rewritten, seed) for seed in range(4)]
-    found += [(f"fault: {name}", fault, *rest) for name, *rest in FAULTS]
-    found += [(f"form {number}", form, *rest) for number, rest in enumerate(FORMS)]
-    found += [("a good stream", good, [example("bmc.cnf"), example("bmc.lrup")]),
-              ("four good streams", good,
-               [example("bmc.cnf"), *(example(f"bmc-four.{number}") for number in range(1, 5))])]
-    found += [(f"lrup-explain {words}", refuses, words, status, said)
-              for words, status, said in REFUSED]
-    found += [(f"compressed, {program}", compressed, program) for program in COMPRESSED]
-    found += [(f"rounds {number}", in_rounds, number) for number in range(count // 50)]
-    found += [(f"hints {seed}", other_hints_alone, seed) for seed in range(count // 20)]
-    found += [(f"threads {seed}", with_threads, seed) for seed in range(count // 20)]
-    found += [(f"faulty {seed}", faulty, seed) for seed in range(count)]
-    return [*found, *((f"mutant {number}", mutant, number) for number in range(mutants))]
-
-
-pytestmark = AGAIN_IF_LATE
-test_row = parametrized(rows(COUNT or 2000, COUNT or 1000))
+    assert run([EXPLAIN, "--version"]) == Ran(f"lrup-explain {version}\n", "", 0)

@@ -15,14 +15,16 @@ import re
 import subprocess
 import sys
 from pathlib import Path
-from typing import Any, Callable, Iterable, List, Sequence, Tuple, Union
+from typing import Iterable, List, Sequence, Tuple, Union
 
-from harness import (BUILDS, EXACT, FILTER, ROOT, SANITIZING, TESTS, Row, dimacs, enough_for,
-                     example, for_tests, needs, parametrized, random_clauses, run, started,
-                     unwatched, want, watched_ends, written)
+import pytest
+
+from harness import (BUILDS, FILTER, PROGRAM, PROOFS, ROOT, SANITIZING, Ran, dimacs, enough_for,
+                     example, for_tests, named, needs, random_clauses, run, sources_of, started,
+                     unwatched, watched_ends, written)
 from lrat import lrat_fault
 from proof_forms import FORMS, read_formula, read_steps
-from solving import PROGRAM, built, solve, want_answer
+from solving import solve, want_answer
 
 sys.path.insert(0, str(ROOT / "bench" / "solve"))
 import easy
@@ -31,6 +33,17 @@ MOST = 65536            # the most hints in a line
 FEW = 6                 # the most in the build that splits nearly all chains
 STEPS = (10, 65535, 65536, 65537, 1000000)
 RANDOM = 300            # formulas, half of which have a proof
+KINDS = ["units", "failed"]
+# Formulas of bench/solve/easy.py: a kind, its numbers, and whether clauses are in reverse order.
+FORMULAS = [(kind, (steps,), False) for kind in KINDS for steps in STEPS] + [
+    (kind, numbers, backwards) for kind, numbers in (("units", (200000,)), ("failed", (70000,)),
+                                                     ("corridor", (60, 55)), ("lfsr", (32, 20000)))
+    for backwards in (False, True)]
+each_formula = pytest.mark.parametrize("kind, numbers, backwards", [
+    pytest.param(kind, numbers, backwards,
+                 id=" ".join(map(str, (kind, *numbers))) + ", reversed" * backwards)
+    for kind, numbers, backwards in FORMULAS])
+TOO_LONG = "lrup-exact: line 1: longer than a line may be\n"
 Text = Union[str, bytes]
 
 
@@ -50,13 +63,14 @@ def check(formula: Path, text: str, work: Path, stream: int = 1, streams: int = 
     lines = done.out.splitlines()
     wanted = (f"c stream {stream}: {added} added, "
               f"{text.count(' d ') and lines[stream - 1].split()[5] or 0} deleted, ended")
-    want((lines[stream - 1:stream], lines[-1:], done.status), ([wanted], ["s UNSATISFIABLE"], 0),
-         f"{done.err}the report")
+    assert lines[stream - 1:stream] == [wanted], done.err
+    assert lines[-1:] == ["s UNSATISFIABLE"], done.err
+    assert done.status == 0, done.err
 
 
 def filtered(words: Sequence[object], given: Text, program: Path = FILTER) -> str:
     text, said, status = run([program, *words], given, env={**os.environ, **SANITIZING})
-    want((said, status), ("", 0), "the filter's messages")
+    assert (said, status) == ("", 0)
     return text
 
 
@@ -65,18 +79,20 @@ def want_linear(text: str, formula: Path, proof_lines: int, steps: int) -> None:
     proof."""
     most = (formula.stat().st_size + 4096, proof_lines + 2 + steps // 16384)
     found = (len(text), len(text.splitlines()))
-    want([one <= other for one, other in zip(found, most)], [True, True],
-         f"bytes and lines are {found}, and at most {most}")
-    want(longest_line(text) <= MOST, True, "whether each line is as short as it has to be")
+    assert all(one <= other for one, other in zip(found, most)), (found, most)
+    assert longest_line(text) <= MOST
 
 
 def make(work: Path, kind: str, *numbers: int, backwards: bool = False) -> Path:
     return written(easy.dimacs(kind, *numbers, backwards=backwards), work)
 
 
-def by_hand(kind: str, steps: int, form: str, work: Path) -> None:
+@pytest.mark.parametrize("form", ["drat", "lrat"])
+@pytest.mark.parametrize("steps", STEPS)
+@pytest.mark.parametrize("kind", KINDS)
+def test_by_hand(kind: str, steps: int, form: str, tmp_path: Path) -> None:
     """A proof without hints, and LRAT whose list of hints is as long as the chain."""
-    formula = make(work, kind, steps)
+    formula = make(tmp_path, kind, steps)
     clauses = steps + 1 if kind == "units" else steps + 3
     if kind == "units":
         proof = ("0\n" if form == "drat"
@@ -87,35 +103,37 @@ def by_hand(kind: str, steps: int, form: str, work: Path) -> None:
         proof = "-1 0\n0\n" if form == "drat" else f"{clauses + 1} -1 0 {chain} 0\n{last}"
     text = filtered(["--format", form, formula], proof)
     want_linear(text, formula, proof.count("\n"), steps)
-    check(formula, text, work)
+    check(formula, text, tmp_path)
 
 
-def by_cadical(kind: str, numbers: Sequence[int], backwards: bool, work: Path) -> None:
+@each_formula
+def test_by_cadical(kind: str, numbers: Sequence[int], backwards: bool, tmp_path: Path) -> None:
     needs("cadical")
-    formula, proof = make(work, kind, *numbers, backwards=backwards), work / "proof"
-    want(run(["cadical", "-q", "--no-binary", formula, proof]).status, 20, "the solver's status")
+    formula, proof = make(tmp_path, kind, *numbers, backwards=backwards), tmp_path / "proof"
+    assert run(["cadical", "-q", "--no-binary", formula, proof]).status == 20
     text = filtered([formula, proof], b"")
     want_linear(text, formula, proof.read_text().count("\n") if kind == "failed" else 16,
                 formula.stat().st_size // 8)
-    check(formula, text, work)
+    check(formula, text, tmp_path)
 
 
-def by_solve(kind: str, numbers: Sequence[int], backwards: bool, work: Path) -> None:
+@each_formula
+@pytest.mark.usefixtures("lrup_solve")
+def test_by_solve(kind: str, numbers: Sequence[int], backwards: bool, tmp_path: Path) -> None:
     """No engine is lost, and the size of each stream is linear in the formula's."""
-    built("solve", for_tests=False)
-    formula = make(work, kind, *numbers, backwards=backwards)
-    answer = solve(["-v", "-j", "2", "--proofs", work / "kept", formula])
+    formula = make(tmp_path, kind, *numbers, backwards=backwards)
+    answer = solve(["-v", "-j", "2", "--proofs", tmp_path / "kept", formula])
     want_answer(answer, 20, formula)
-    want(answer.lost(), [], "engines that are lost")
-    for path in (work / "kept").glob("round-*.stream-*"):
+    assert answer.lost() == []
+    for path in (tmp_path / "kept").glob("round-*.stream-*"):
         want_linear(path.read_text(), formula, formula.stat().st_size // 64,
                     formula.stat().st_size // 8)
 
 
-def simulated(work: Path) -> None:
+def test_a_simulation_by_yosys(tmp_path: Path) -> None:
     needs("yosys")
-    formula = written(easy.simulation(100), work)
-    check(formula, filtered(["--format", "drat", formula], "0\n"), work)
+    formula = written(easy.simulation(100), tmp_path)
+    check(formula, filtered(["--format", "drat", formula], "0\n"), tmp_path)
 
 
 # Units at the root.
@@ -124,19 +142,21 @@ def simulated(work: Path) -> None:
 AFTER = "{0} 1 2 0\n{0} 1 -2 0\n{0} -1 2 0\n{0} -1 -2 0\n"
 
 
-def units_needed(steps: int, order: str, work: Path) -> None:
+@pytest.mark.parametrize("order", ["alone", "backwards", "every third"])
+def test_units_that_are_needed(order: str, tmp_path: Path) -> None:
     """Units from variable 3 on, each implying the next, without a contradiction. The proof needs
     the last unit first, or one in between."""
+    steps = 20000
     last = steps + 2
     chain = "".join(f"-{variable} {variable + 1} 0\n" for variable in range(3, last))
-    formula = written(f"p cnf {last} {steps + 4}\n3 0\n{chain}{AFTER.format(-last)}", work)
+    formula = written(f"p cnf {last} {steps + 4}\n3 0\n{chain}{AFTER.format(-last)}", tmp_path)
     asked = {"backwards": range(last, 3, -1), "alone": (), "every third": range(last, 3, -3)}[order]
     proof = "".join(f"{variable} 0\n" for variable in asked) + "1 0\n0\n"
     text = filtered(["--format", "drat", formula], proof)
     lines = steps + len(asked) + 2
-    want((len(text.splitlines()) <= lines, len(text) <= 48 * lines), (True, True),
-         f"{len(text)} bytes in lines that are at most {lines}")
-    check(formula, text, work)
+    assert len(text.splitlines()) <= lines
+    assert len(text) <= 48 * lines
+    check(formula, text, tmp_path)
 
 
 def circuit(gates: Iterable[Tuple[int, int]], given: Sequence[int], first: int) -> List[List[int]]:
@@ -151,25 +171,27 @@ def circuit(gates: Iterable[Tuple[int, int]], given: Sequence[int], first: int) 
     return [*clauses, [last, variable + 1], [last, -variable - 1]]
 
 
-def clause_of_many(count: int, gates: int, work: Path) -> None:
+def test_a_clause_of_many_literals_over_exclusive_ors(tmp_path: Path) -> None:
     """A clause whose chain needs all gates. A gate's inputs are the gate before it and a random
     earlier variable, so it depends on most of the clause's literals."""
+    count, gates = 200, 66000
     numbers, inputs = random.Random(count), range(1, count + 1)
     clauses = circuit(((last, numbers.randrange(1, last)) for last in range(count, count + gates)),
                       inputs, count + 1)
     free = count + gates + 2
     clauses += [[variable, literal] for variable in inputs for literal in (free, -free)]
-    formula = written(dimacs(free, clauses), work)
+    formula = written(dimacs(free, clauses), tmp_path)
     text = filtered(["--format", "drat", formula],
                     " ".join(f"-{variable}" for variable in inputs) + f" 0\n{free} 0\n0\n")
     want_linear(text, formula, 3, gates)
-    want(len(text) < 16 * gates, True, f"{len(text)} bytes, of a chain of {gates} hints")
-    check(formula, text, work)
+    assert len(text) < 16 * gates
+    check(formula, text, tmp_path)
 
 
-def many_at_once(count: int, work: Path) -> None:
+def test_many_literals_at_once(tmp_path: Path) -> None:
     """One literal implies many others, and each gate of a tree derives one literal from two: more
     literals are needed at once than a line may have hints."""
+    count = 70000
     inputs = range(2, count + 2)
     first, leaves = count + 2, 2 * count + 1
     gates = [(variable, variable + 1) for variable in inputs[:-1]] + [(inputs[-1], inputs[0])]
@@ -177,33 +199,40 @@ def many_at_once(count: int, work: Path) -> None:
     clauses = circuit(gates, inputs, first)
     free = leaves + count + 1
     clauses += [[-1, variable] for variable in inputs] + [[1, free], [1, -free]]
-    formula = written(dimacs(free, clauses), work)
+    formula = written(dimacs(free, clauses), tmp_path)
     text = filtered(["--format", "drat", formula], "-1 0\n0\n")
-    want(len(text) < formula.stat().st_size, True, f"{len(text)} bytes")
-    check(formula, text, work)
+    assert len(text) < formula.stat().st_size
+    check(formula, text, tmp_path)
 
 
-def wide(count: int, refuted: bool, work: Path) -> None:
-    """A clause whose literals are all false. If two lines can't hold the units that make them
-    false, the filter stops."""
+def refute_wide(count: int, work: Path) -> Tuple[Path, Ran]:
+    """The filter on a clause whose literals are all false."""
     units = "".join(f"{variable} 0\n" for variable in range(1, count + 1))
-    formula = written(f"p cnf {count} {count + 1}\n{units}"
-                      + " ".join(f"-{variable}" for variable in range(1, count + 1)) + " 0\n", work)
-    text, said, status = run([FILTER, "--format", "drat", formula], "0\n")
-    if not refuted:
-        return want((text, said, status),
-                    ("", "lrup-exact: line 1: longer than a line may be\n", 1), "the end")
-    want((said, status, longest_line(text) <= MOST), ("", 0, True), "the end")
-    check(formula, text, work)
+    clause = " ".join(f"-{variable}" for variable in range(1, count + 1))
+    formula = written(f"p cnf {count} {count + 1}\n{units}{clause} 0\n", work)
+    return formula, run([FILTER, "--format", "drat", formula], "0\n")
 
 
-def without_identities(work: Path) -> None:
-    """Two LRAT streams that may cite each other."""
-    formula = make(work, "units", MOST + 1)
+@pytest.mark.parametrize("count", [65535, 65536, 131070])
+def test_a_wide_clause(count: int, tmp_path: Path) -> None:
+    formula, (text, said, status) = refute_wide(count, tmp_path)
+    assert (said, status) == ("", 0)
+    assert longest_line(text) <= MOST
+    check(formula, text, tmp_path)
+
+
+def test_a_clause_that_is_too_wide(tmp_path: Path) -> None:
+    """If two lines can't hold the units that make the literals false, the filter stops."""
+    _, done = refute_wide(131071, tmp_path)
+    assert done == Ran("", TOO_LONG, 1)
+
+
+def test_lrat_of_two_streams(tmp_path: Path) -> None:
+    """The streams may cite each other, so there are no identities to spare."""
+    formula = make(tmp_path, "units", MOST + 1)
     words = ["--stream", "1", "--streams", "2", formula]
-    said = "lrup-exact: line 1: longer than a line may be\n"
-    want(run([FILTER, *words], f"{MOST + 3} 0 0\n")[:], ("", said, 1), "the end")
-    check(formula, filtered(["--format", "drat", *words], "0\n"), work, 1, 2)
+    assert run([FILTER, *words], f"{MOST + 3} 0 0\n") == Ran("", TOO_LONG, 1)
+    check(formula, filtered(["--format", "drat", *words], "0\n"), tmp_path, 1, 2)
 
 
 # At most six hints in a line.
@@ -211,40 +240,51 @@ def without_identities(work: Path) -> None:
 
 @functools.lru_cache(maxsize=None)
 def short_lines() -> Path:
-    return for_tests(BUILDS / "lrup-exact-short-lines", EXACT.glob("*.c"),
+    return for_tests(BUILDS / "lrup-exact-short-lines", sources_of("lrup-exact"),
                      f"-DIDENTITIES_OF_A_LINE={FEW}")
 
 
-def check_short(formula: Path, text: str, work: Path) -> None:
-    want(lrat_fault(read_formula(formula), text), "", "as LRAT")
-    want(longest_line(text) <= FEW, True, "whether each line is as short as it has to be")
+def want_short(formula: Path, proof: Text, form: str, work: Path) -> None:
+    text = filtered(["--format", form, formula], proof, short_lines())
+    assert lrat_fault(read_formula(formula), text) == ""
+    assert longest_line(text) <= FEW
     check(formula, text, work)
 
 
-def recorded(formula: Path, proof: Text, form: str, work: Path) -> None:
-    check_short(formula, filtered(["--format", form, formula], proof, short_lines()), work)
+def proof_of(name: str, stream: str, form: str) -> Tuple[str, bytes]:
+    """The recorded stream as a proof in another form, and what --format calls the form."""
+    word, make_proof = FORMS[form]
+    return word, b"".join(make_proof(read_formula(example(name)), read_steps(example(stream))))
 
 
-def in_rounds(formula: Path, proof: Text, form: str, memory: str, least: int, work: Path) -> None:
-    with started([short_lines(), "--rounds", "d", "--memory", memory, "--format", form, formula,
-                  written(proof, work, "proof")],
-                 cwd=work, stdout=subprocess.PIPE, stderr=subprocess.PIPE, bufsize=0,
+@pytest.mark.parametrize("form", FORMS)
+@pytest.mark.parametrize("name", ["four-clause", "pigeonhole", "bmc"])
+def test_short_lines(name: str, form: str, tmp_path: Path) -> None:
+    formula = f"{name}.cnf"
+    word, proof = proof_of(formula, f"{name}.lrup", form)
+    want_short(example(formula), proof, word, tmp_path)
+
+
+@pytest.mark.parametrize("form", FORMS)
+def test_short_lines_in_rounds(form: str, tmp_path: Path) -> None:
+    formula = example("pigeonhole.cnf")
+    word, proof = proof_of("pigeonhole.cnf", "pigeonhole.lrup", form)
+    with started([short_lines(), "--rounds", "d", "--memory", "12K", "--format", word, formula,
+                  written(proof, tmp_path, "proof")],
+                 cwd=tmp_path, stdout=subprocess.PIPE, stderr=subprocess.PIPE, bufsize=0,
                  env={**os.environ, **SANITIZING}) as running:
         assert running.stdout and running.stderr
-        want(running.stdout.readline(), b"d/round-1.stream-1\n", "the line that the filter writes")
-        done = run([PROGRAM, "--watch", "--rounds", "d", formula, "d/round-1.stream-1"], cwd=work,
-                   stdin=running.stdout)
+        assert running.stdout.readline() == b"d/round-1.stream-1\n"
+        done = run([PROGRAM, "--watch", "--rounds", "d", formula, "d/round-1.stream-1"],
+                   cwd=tmp_path, stdin=running.stdout)
         running.stdout.close()
-        want((running.stderr.read(), running.wait(), unwatched(done.err), done.status),
-             (b"", 0, "", 0), "the ends")
-    want(len(watched_ends(done.err)) >= least, True, f"whether there are {least} rounds")
+        assert (running.stderr.read(), running.wait()) == (b"", 0)
+    assert (unwatched(done.err), done.status) == ("", 0)
+    assert len(watched_ends(done.err)) >= 2     # rounds
 
 
-def of_stream(name: str, stream: str, form: str, check: Callable[..., None], *more: Any) -> None:
-    """Runs this check on a recorded stream that is written as a proof in another form."""
-    word, make_proof = FORMS[form]
-    proof = b"".join(make_proof(read_formula(example(name)), read_steps(example(stream))))
-    check(example(name), proof, word, *more)
+def test_short_lines_of_random_drat(tmp_path: Path) -> None:
+    want_short(PROOFS / "random.cnf", (PROOFS / "random.drat").read_bytes(), "drat", tmp_path)
 
 
 def random_formula(seed: int) -> str:
@@ -262,16 +302,17 @@ def random_formula(seed: int) -> str:
     return dimacs(variables, clauses)
 
 
-def random_proofs(first: int, count: int, work: Path) -> None:
-    """CaDiCaL's proofs as DRUP, as FRAT, and as LRAT with long lines. A third of the additions in
-    LRAT have no hints."""
+@pytest.mark.parametrize("first", range(0, RANDOM, 50))
+def test_short_lines_of_random_formulas(first: int, tmp_path: Path) -> None:
+    """CaDiCaL's proofs of 50 formulas as DRUP, as FRAT, and as LRAT with long lines. A third of the
+    additions in LRAT have no hints."""
     needs("cadical")
     checked = 0
-    for seed in range(first, first + count):
-        formula, numbers = written(random_formula(seed), work), random.Random(seed)
-        if run(["cadical", "-q", "--no-binary", formula, work / "proof"]).status != 20:
+    for seed in range(first, first + 50):
+        formula, numbers = written(random_formula(seed), tmp_path), random.Random(seed)
+        if run(["cadical", "-q", "--no-binary", formula, tmp_path / "proof"]).status != 20:
             continue
-        proof = (work / "proof").read_text()
+        proof = (tmp_path / "proof").read_text()
         lrat = "".join(line if numbers.randrange(3) or " d " in line
                        else re.sub(r" 0 .*", " 0 0", line)
                        for line in filtered(["--format", "drat", formula], proof).splitlines(True))
@@ -279,59 +320,8 @@ def random_proofs(first: int, count: int, work: Path) -> None:
                        for number, line in enumerate(proof.splitlines(), 1) if line[0] != "d")
         for form, text in (("drat", proof), ("lrat", lrat), ("frat", frat)):
             try:
-                recorded(formula, text, form, work)
+                want_short(formula, text, form, tmp_path)
             except AssertionError as found:
                 raise AssertionError(f"formula {seed}, {form}: {found}") from found
         checked += 1
-    want(checked > count // 4, True, f"whether {checked} of {count} formulas are enough")
-
-
-# The tests.
-
-
-def rows_of_chains() -> List[Row]:
-    found: List[Row] = []
-    for kind in ("units", "failed"):
-        for steps in STEPS:
-            found += [(f"{kind}, {steps} steps, {form}", by_hand, kind, steps, form)
-                      for form in ("drat", "lrat")]
-            found += [(f"{kind}, {steps} steps, CaDiCaL", by_cadical, kind, (steps,), False),
-                      (f"{kind}, {steps} steps, lrup-solve", by_solve, kind, (steps,), False)]
-    for kind, numbers in (("units", (200000,)), ("failed", (70000,)), ("corridor", (60, 55)),
-                          ("lfsr", (32, 20000))):
-        for backwards in (False, True):
-            name = kind + ", reversed" * backwards
-            found += [(f"{name}, {how}", function, kind, numbers, backwards)
-                      for how, function in (("CaDiCaL", by_cadical), ("lrup-solve", by_solve))]
-    return [*found, ("a simulation by yosys", simulated)]
-
-
-def rows_of_short_lines() -> List[Row]:
-    found: List[Row] = []
-    for name, stream in (("four-clause.cnf", "four-clause.lrup"),
-                         ("pigeonhole.cnf", "pigeonhole.lrup"), ("bmc.cnf", "bmc.lrup")):
-        for form in FORMS:
-            found.append((f"{stream}, {form}, short lines", of_stream, name, stream, form,
-                          recorded))
-            if name == "pigeonhole.cnf":
-                found.append((f"{stream}, {form}, short lines in rounds", of_stream, name, stream,
-                              form, in_rounds, "12K", 2))
-    proof = (TESTS / "proofs" / "random.drat").read_bytes()
-    found += [("random.drat, short lines", recorded, TESTS / "proofs" / "random.cnf",
-               proof, "drat")]
-    return found + [(f"random formulas from {first} on, short lines", random_proofs, first, 50)
-                    for first in range(0, RANDOM, 50)]
-
-
-def rows() -> List[Row]:
-    found = rows_of_chains() + rows_of_short_lines()
-    found += [(f"units that are needed {order}", units_needed, 20000, order)
-              for order in ("alone", "backwards", "every third")]
-    found += [(f"a clause of {count} literals", wide, count, count <= MOST + 65535 - 1)
-              for count in (65535, 65536, 131070, 131071)]
-    found += [("a clause of 200 literals over exclusive ors", clause_of_many, 200, 66000),
-              ("70,000 literals at once", many_at_once, 70000)]
-    return [*found, ("LRAT of two streams", without_identities)]
-
-
-test_row = parametrized(rows())
+    assert checked > 50 // 4

@@ -2,11 +2,12 @@
 the filter refuses a proof, its message has to name the line or byte."""
 import random
 from pathlib import Path
-from typing import List
+from typing import List, Tuple
+
+import pytest
 
 from filtering import FIRST, ONE_OF_TWO, Text, at_place, check, check_report, exact, sorted_hints
-from harness import (COMPRESSED, FILTER, FOUR, PROGRAM, ROOT, Ran, Row, dimacs, enough_for,
-                     parametrized, run, want, written)
+from harness import COMPRESSED, FILTER, FOUR, ROOT, Ran, dimacs, enough_for, named, run, written
 from proof_forms import code, codes, varint
 
 UNITS = "p cnf 3 4\n1 0\n-1 2 0\n-2 3 0\n-3 -2 0\n"
@@ -14,120 +15,23 @@ LATER = "p cnf 5 7\n1 0\n-1 2 0\n-2 3 0\n-3 4 5 0\n-3 4 -5 0\n-3 -4 5 0\n-3 -4 -
 FALSE_FOR_GOOD = "p cnf 7 8\n1 0\n7 0\n2 3 4 0\n2 3 -4 0\n-2 5 0\n-2 -5 0\n-3 6 0\n-3 -6 0\n"
 TOLD = "o 9 -1 -2 0\no 20 2 1 0\no 7 2 -1 0\no 1 1 -2 0\n"     # the four clauses, in another order
 NO_CLAUSE = "no conflict by unit propagation, and the step cites the clause"
+# A formula, a proof and options, after the case's name; in `Refused`, also what the message names
+# and the lines that are written before; in `ComesOut`, the lines that are written.
+Refused = Tuple[str, str, Text, str, str, List[str]]
+ComesOut = Tuple[str, str, Text, str, List[str]]
 
 
-def stops(formula: str, proof: Text, cause: str, lines: str, words: List[str], work: Path) -> None:
+def want_stop(formula: str, proof: Text, cause: str, lines: str, words: List[str],
+              work: Path) -> None:
     """The filter stops at the line or byte in `cause`, after writing these lines."""
     text, said, status = exact([*words, written(formula, work)], proof)
-    want((text, status), (lines, 1), "the output")
-    assert said.startswith("lrup-exact: ") and cause in said and said.count("\n") == 1, (
-        f"expected a message on '{cause}', but found\n{said}")
+    assert (text, status) == (lines, 1)
+    assert said.startswith("lrup-exact: ")
+    assert said.count("\n") == 1
+    assert cause in said
 
 
-def comes_out(formula: str, proof: Text, lines: str, words: List[str], work: Path) -> None:
-    want(exact([*words, written(formula, work)], proof), (lines, "", 0), "the output")
-
-
-def comes_out_with(program: str, formula: str, proof: Text, lines: str, words: List[str],
-                   work: Path) -> None:
-    """The output is these lines, with hints in an order that the program accepts."""
-    path = written(formula, work)
-    text, said, status = exact([*words, path], proof)
-    want((sorted_hints(text), said, status), (sorted_hints(lines), "", 0), "the output")
-    stream, count = (int(words[1]), int(words[3])) if "--stream" in words else (1, 1)
-    streams = [path for path, _ in at_place((written(text, work, "exact"), 0), stream, count)]
-    deleted = text.count(" d ")
-    added = len(text.splitlines()) - deleted
-    found = run([program, *enough_for([text.encode()]), path, *streams]).out
-    want(found.splitlines()[stream - 1],
-         f"c stream {stream}: {added} added, {deleted} deleted, ended", "the report")
-
-
-def clause_twice(work: Path) -> None:
-    """Two `o` lines name both copies of a clause that the formula has twice: one is deleted, and
-    the other stays."""
-    formula = written("p cnf 2 5\n1 2 0\n-1 2 0\n1 -2 0\n-1 -2 0\n2 1 0\n", work)
-    text, said, status = exact([formula],
-                               "o 3 1 2 0\no 8 2 1 0\no 4 -1 2 0\nd 8 2 1 0\na 9 2 0 l 3 4 0\n")
-    deletion, addition = ("1", "5") if text.startswith("1 d 1 ") else ("5", "1")
-    want((text, said, status), (f"1 d {deletion} 0\n6 2 0 {addition} 2 0\n", "", 0), "the output")
-
-
-def far_names(program: str, count: int, work: Path) -> None:
-    """Few but large identities of FRAT, added and deleted in any order: each clause is found by its
-    identity."""
-    formula, numbers, names, proof = written(FOUR, work), random.Random(count), [], TOLD
-    for name in numbers.sample(range(10 ** 9, 10 ** 12), count):
-        proof += f"a {name} 1 2 0 l 20 0\n"
-        names.append(name)
-        while names and numbers.randrange(2):
-            proof += f"d {names.pop(numbers.randrange(len(names)))} 1 2 0\n"
-    numbers.shuffle(names)
-    proof += "".join(f"d {name} 1 2 0\n" for name in names)
-    text, said, status = exact([formula], proof)
-    want((text.count(" d "), said, status), (count, "", 0), "deletions, and what is said")
-    check_report(program, formula, text, f"{count} added, {count} deleted, ended", work)
-
-
-def held_hints(program: str, count: int, work: Path) -> None:
-    """In many steps over the same literals, hints come before the hints that make them unit: no
-    step affects the next."""
-    numbers, proof = random.Random(count), ""
-    clauses = [[-variable, -variable - 1, -variable - 2, variable + 3]
-               for variable in range(1, count + 1)]
-    formula = written(dimacs(count + 3, clauses), work)
-    for identity in range(count + 1, 2 * count + 1):
-        first = numbers.randrange(1, count + 1)
-        hints = list(range(first, numbers.randrange(first, count + 1) + 1))
-        last = hints[-1] + 3
-        numbers.shuffle(hints)
-        proof += (f"{identity} -{first} -{first + 1} -{first + 2} {last} 0 "
-                  f"{' '.join(map(str, hints))} 0\n")
-    text, said, status = exact([formula], proof)
-    want((said, status), ("", 0), "the messages")
-    check_report(program, formula, text, f"{count} added, 0 deleted, ended", work)
-
-
-def compressed(name: str, words: List[str], work: Path) -> None:
-    """A compressed formula or proof: the message names the program that unpacks it."""
-    formula, packed = written(FOUR, work), written(COMPRESSED[name] + b"\0" * 100, work, "packed")
-    want(exact([*words, packed, "/dev/null"])[:],
-         ("", f"lrup-exact: {packed}: compressed: unpack it with {name}\n", 1),
-         "the message on the formula")
-    want(exact([*words, formula, packed])[:],
-         ("", f"lrup-exact: byte 1: compressed: unpack it with {name}\n", 1),
-         "the message on the proof")
-
-
-def bad_other(line: str, work: Path) -> None:
-    """The file of --other isn't LRAT text with increasing identities over the formula's
-    literals."""
-    other = written(f"{line}\n8 2 0 1 2 0\n", work, "other")
-    stops(FOUR, FIRST + "7 1 -2 0 8 0\n", f"line 2: {other}: ", FIRST,
-          ONE_OF_TWO + ["--other", f"2={other}"], work)
-
-
-def another(program: str, work: Path) -> None:
-    """Another stream has so many clauses that the filter gives memory back."""
-    formula, count = written(FOUR, work), 9000
-    theirs = ("".join(f"{6 + 2 * number} 1 2 0 1 0\n" for number in range(count))
-              + f"{6 + 2 * count} 2 0 1 2 0\n")
-    ours = "".join(f"{5 + 2 * number} 1 2 0 {6 + 2 * number} 0\n" for number in range(count))
-    ours += f"{5 + 2 * count} 0 {6 + 2 * count} 3 4 0\n"
-    other = written(theirs, work, "other")
-    text, said, status = exact([*ONE_OF_TWO, "--other", f"2={other}", formula], ours)
-    want((text, said, status), (ours, "", 0), "the output")
-    check(program, formula, [(written(text, work, "exact"), count + 1), (other, count + 1)])
-
-
-def summary(work: Path) -> None:
-    text, said, status = exact(["--help"])
-    want((text[:18], said, status), ("usage: lrup-exact ", "", 0), "the summary")
-    version = (ROOT / "VERSION").read_text().strip()
-    want(run([FILTER, "--version"]), Ran(f"lrup-exact {version}\n", "", 0), "--version")
-
-
-def refusals() -> List[Row]:
+def refusals() -> List[Refused]:
     """Refused proofs in LRAT, DRUP and DRAT text."""
     return [
         ("a RAT step with hints", FOUR, FIRST + "6 1 0 -3 4 0\n", "line 2: a RAT step", FIRST, []),
@@ -205,43 +109,54 @@ def refusals() -> List[Row]:
     ]
 
 
-def refusals_of_frat() -> List[Row]:
+@pytest.mark.parametrize("formula, proof, cause, lines, words", named(refusals()))
+def test_refused(formula: str, proof: Text, cause: str, lines: str, words: List[str],
+                 tmp_path: Path) -> None:
+    want_stop(formula, proof, cause, lines, words, tmp_path)
+
+
+def refusals_of_frat() -> List[Refused]:
     late = TOLD + "a 10 2 0 l 20 7 0\n"
     return [
-        ("FRAT, no clause of the formula's", FOUR, "o 9 1 2 0\no 3 1 0\n", "line 2: ", "", []),
-        ("FRAT, a clause more often than the formula has it", FOUR, "o 9 1 2 0\no 3 2 1 0\n",
+        ("no clause of the formula's", FOUR, "o 9 1 2 0\no 3 1 0\n", "line 2: ", "", []),
+        ("a clause more often than the formula has it", FOUR, "o 9 1 2 0\no 3 2 1 0\n",
          "line 2: ", "", []),
-        ("FRAT, a derived clause as one of the formula's", FOUR, late + "o 11 2 0\n",
+        ("a derived clause as one of the formula's", FOUR, late + "o 11 2 0\n",
          "line 6: ", FIRST, []),
-        ("FRAT, an identity twice", FOUR, late + "a 10 0 l 10 1 9 0\n",
+        ("an identity twice", FOUR, late + "a 10 0 l 10 1 9 0\n",
          "line 6: the identity 10", FIRST, []),
-        ("FRAT, an identity of the formula's twice", FOUR, late + "a 9 0 l 10 1 9 0\n",
+        ("an identity of the formula's twice", FOUR, late + "a 9 0 l 10 1 9 0\n",
          "line 6: the identity 9", FIRST, []),
-        ("FRAT, a clause that isn't there", FOUR, TOLD + "a 10 0 l 99 20 0\n",
+        ("a clause that isn't there", FOUR, TOLD + "a 10 0 l 99 20 0\n",
          f"line 5: {NO_CLAUSE} 99, which isn't there\n", "", []),
-        ("FRAT, a variable that isn't there", FOUR, late + "a 11 -1 3 0\n",
+        ("a variable that isn't there", FOUR, late + "a 11 -1 3 0\n",
          "line 6: a variable", FIRST, []),
-        ("FRAT, a negative hint", FOUR, late + "a 11 1 0 l -7 0\n",
+        ("a negative hint", FOUR, late + "a 11 1 0 l -7 0\n",
          "line 6: a RAT step", FIRST, []),
-        ("FRAT, a clause that doesn't follow", "p cnf 2 1\n1 2 0\n", "o 1 1 2 0\na 2 1 0\n",
+        ("a clause that doesn't follow", "p cnf 2 1\n1 2 0\n", "o 1 1 2 0\na 2 1 0\n",
          "line 2: no conflict", "", []),
-        ("FRAT, a new identity twice", FOUR, late + "r 10 9 0\n",
+        ("a new identity twice", FOUR, late + "r 10 9 0\n",
          "line 6: the identity 9", FIRST, []),
-        ("FRAT, an identity without a new one", FOUR, late + "r 10 0\n", "line 6: ", FIRST, []),
-        ("FRAT, another letter", FOUR, late + "x 11 0\n", "line 6: ", FIRST, []),
-        ("FRAT, a line of LRAT", FOUR, late + "6 0 5 3 4 0\n", "line 6: ", FIRST, []),
-        ("FRAT, hints without a letter", FOUR, late + "a 11 0 10 1 9 0\n", "line 6: ", FIRST, []),
-        ("FRAT, hints without an end", FOUR, late + "a 11 0 l 10 1 9\n", "line 6: ", FIRST, []),
-        ("FRAT, a step that is cut", FOUR, late + "a 11 0 l 10 1",
+        ("an identity without a new one", FOUR, late + "r 10 0\n", "line 6: ", FIRST, []),
+        ("another letter", FOUR, late + "x 11 0\n", "line 6: ", FIRST, []),
+        ("a line of LRAT", FOUR, late + "6 0 5 3 4 0\n", "line 6: ", FIRST, []),
+        ("hints without a letter", FOUR, late + "a 11 0 10 1 9 0\n", "line 6: ", FIRST, []),
+        ("hints without an end", FOUR, late + "a 11 0 l 10 1 9\n", "line 6: ", FIRST, []),
+        ("a step that is cut", FOUR, late + "a 11 0 l 10 1",
          "line 6: the proof ends within a step", FIRST, []),
-        ("FRAT, no identity", FOUR, late + "a\n", "line 6: ", FIRST, []),
-        ("FRAT, a word that is no number", FOUR, late + "a 11 0 l 10 y 9 0\n",
+        ("no identity", FOUR, late + "a\n", "line 6: ", FIRST, []),
+        ("a word that is no number", FOUR, late + "a 11 0 l 10 y 9 0\n",
          "line 6: ", FIRST, []),
     ]
 
 
-def refusals_in_binary() -> List[Row]:
-    """Messages name the step and the byte at which it begins; both count from 1."""
+@pytest.mark.parametrize("formula, proof, cause, lines, words", named(refusals_of_frat()))
+def test_refused_frat(formula: str, proof: Text, cause: str, lines: str, words: List[str],
+                      tmp_path: Path) -> None:
+    want_stop(formula, proof, cause, lines, words, tmp_path)
+
+
+def refusals_in_binary() -> List[Refused]:
     drat, lrat = ["--format", "binary-drat"], ["--format", "binary-lrat"]
     two, five = b"a" + codes([2]), b"a" + code(5) + codes([2]) + codes([1, 2])
     return [
@@ -271,8 +186,51 @@ def refusals_in_binary() -> List[Row]:
     ]
 
 
-def in_another_order() -> List[Row]:
-    """The order of hints isn't fixed."""
+@pytest.mark.parametrize("formula, proof, cause, lines, words", named(refusals_in_binary()))
+def test_refused_binary(formula: str, proof: Text, cause: str, lines: str, words: List[str],
+                        tmp_path: Path) -> None:
+    """Messages name the step and the byte at which it begins; both count from 1."""
+    want_stop(formula, proof, cause, lines, words, tmp_path)
+
+
+def ordered() -> List[ComesOut]:
+    five = b"a" + code(5) + codes([2]) + codes([1, 2])
+    return [
+        ("imports", FOUR,
+         "1  i 2 1 0\n5 2 0 2 1 1 0\n6 i -2 -2 0\n7 0 6 1 5 0\n11 0 5 6 0\n",
+         "1 i 2 1 0\n5 2 0 2 1 0\n6 i -2 -2 0\n7 0 6 5 0\n11 0 5 6 0\n", ONE_OF_TWO),
+        ("a tautology, which is of no use", FOUR, "1 -1 0\n2 0\n", FIRST, []),
+        ("FRAT, in another order", FOUR,
+         TOLD + "a 10 2 0 l 20 7 0\nd 20 1 2 0\na 12 0 l 10 1 9 0\nf 12 0\n",
+         FIRST + "5 d 1 0\n6 0 5 3 4 0\n", []),
+        ("FRAT, as the second of three", FOUR,
+         TOLD + "a 10 2 0 l 20 7 0\na 12 0 l 10 1 9 0\nf 10 2 0\n", "6 2 0 1 2 0\n9 0 6 3 4 0\n",
+         ["--stream", "2", "--streams", "3"]),
+        ("FRAT, an original after an addition", FOUR,
+         "o 8 1 2 0\no 6 2 -1 0\na 7 2 0 l 8 6 0\no 5 1 -2 0\no 4 -2 -1 0\n"
+         "a 9 0 l 7 5 4 0\n", FIRST + "6 0 5 3 4 0\n", []),
+        ("binary DRAT, by a number below the formula's last", FOUR,
+         b"a" + codes([2]) + b"d" + codes([1, 2]), FIRST + "5 d 1 0\n", []),
+        ("binary DRAT, a deletion first", FOUR,
+         b"d" + codes([-2, 1]) + b"a" + codes([2]), "1 d 3 0\n" + FIRST, []),
+        ("binary LRAT, a deletion first", FOUR, b"d" + codes([9]) + five, FIRST, []),
+        ("FRAT, new identities", FOUR,
+         TOLD + "a 10 2 0 l 20 7 0\nr 10 30 1 9 9 1 77 78 0\na 12 0 l 30 9 1 0\n",
+         FIRST + "6 0 5 3 4 0\n", []),
+        ("comments in the formula",
+         "c p cnf\nc\n" + FOUR.replace("\n-1 2", "\nc 1 0\n-1 2"), FIRST, FIRST, []),
+        ("binary LRAT, by a number that is no literal", FOUR, five, FIRST, []),
+        ("a last line of LRAT without LF", FOUR, "5 2 0 1 2 0\n6 0 5 3 4 0",
+         FIRST + "6 0 5 3 4 0\n", []),
+    ]
+
+
+@pytest.mark.parametrize("formula, proof, lines, words", named(ordered()))
+def test_output(formula: str, proof: Text, lines: str, words: List[str], tmp_path: Path) -> None:
+    assert exact([*words, written(formula, tmp_path)], proof) == (lines, "", 0)
+
+
+def reordered() -> List[ComesOut]:
     unit = "5 d 5 0\n"
     return [
         ("FRAT, hints that aren't there", FOUR, TOLD + "a 10 2 0 l 33 34 0\na 11 0 l 0\n",
@@ -324,51 +282,110 @@ def in_another_order() -> List[Row]:
     ]
 
 
-def what_comes_out(program: str) -> List[Row]:
-    five = b"a" + code(5) + codes([2]) + codes([1, 2])
-    return [(name, comes_out_with, program, *rest) for name, *rest in in_another_order()] + [
-        ("imports", comes_out, FOUR,
-         "1  i 2 1 0\n5 2 0 2 1 1 0\n6 i -2 -2 0\n7 0 6 1 5 0\n11 0 5 6 0\n",
-         "1 i 2 1 0\n5 2 0 2 1 0\n6 i -2 -2 0\n7 0 6 5 0\n11 0 5 6 0\n", ONE_OF_TWO),
-        ("a tautology, which is of no use", comes_out, FOUR, "1 -1 0\n2 0\n", FIRST, []),
-        ("FRAT, in another order", comes_out, FOUR,
-         TOLD + "a 10 2 0 l 20 7 0\nd 20 1 2 0\na 12 0 l 10 1 9 0\nf 12 0\n",
-         FIRST + "5 d 1 0\n6 0 5 3 4 0\n", []),
-        ("FRAT, as the second of three", comes_out, FOUR,
-         TOLD + "a 10 2 0 l 20 7 0\na 12 0 l 10 1 9 0\nf 10 2 0\n", "6 2 0 1 2 0\n9 0 6 3 4 0\n",
-         ["--stream", "2", "--streams", "3"]),
-        ("FRAT, an original after an addition", comes_out, FOUR,
-         "o 8 1 2 0\no 6 2 -1 0\na 7 2 0 l 8 6 0\no 5 1 -2 0\no 4 -2 -1 0\n"
-         "a 9 0 l 7 5 4 0\n", FIRST + "6 0 5 3 4 0\n", []),
-        ("FRAT, a clause that the formula has twice", clause_twice),
-        ("binary DRAT, by a number below the formula's last", comes_out, FOUR,
-         b"a" + codes([2]) + b"d" + codes([1, 2]), FIRST + "5 d 1 0\n", []),
-        ("binary DRAT, a deletion first", comes_out, FOUR,
-         b"d" + codes([-2, 1]) + b"a" + codes([2]), "1 d 3 0\n" + FIRST, []),
-        ("binary LRAT, a deletion first", comes_out, FOUR, b"d" + codes([9]) + five, FIRST, []),
-        ("FRAT, new identities", comes_out, FOUR,
-         TOLD + "a 10 2 0 l 20 7 0\nr 10 30 1 9 9 1 77 78 0\na 12 0 l 30 9 1 0\n",
-         FIRST + "6 0 5 3 4 0\n", []),
-        ("comments in the formula", comes_out,
-         "c p cnf\nc\n" + FOUR.replace("\n-1 2", "\nc 1 0\n-1 2"), FIRST, FIRST, []),
-        ("binary LRAT, by a number that is no literal", comes_out, FOUR, five, FIRST, []),
-        ("a last line of LRAT without LF", comes_out, FOUR, "5 2 0 1 2 0\n6 0 5 3 4 0",
-         FIRST + "6 0 5 3 4 0\n", []),
-        ("names far from each other", far_names, program, 1000),
-        ("hints that are held", held_hints, program, 100),
-        ("a summary", summary),
-        ("another's stream", another, program),
-    ] + [
-        (f"compressed, {name} {words}", compressed, name, words) for name in COMPRESSED
-        for words in ([], ["--format", "drat"])
-    ] + [(f"another's stream, {line}", bad_other, line)
-         for line in ("6 3 0 1 0", "6 x 0 1 0", "6 2 1")]
+@pytest.mark.parametrize("formula, proof, lines, words", named(reordered()))
+def test_output_in_some_order(program: str, formula: str, proof: Text, lines: str,
+                              words: List[str], tmp_path: Path) -> None:
+    """The order of hints isn't fixed; lrupd has to accept it."""
+    path = written(formula, tmp_path)
+    text, said, status = exact([*words, path], proof)
+    assert sorted_hints(text) == sorted_hints(lines)
+    assert (said, status) == ("", 0)
+    stream, count = (int(words[1]), int(words[3])) if "--stream" in words else (1, 1)
+    streams = [path for path, _ in at_place((written(text, tmp_path, "exact"), 0), stream, count)]
+    deleted = text.count(" d ")
+    added = len(text.splitlines()) - deleted
+    found = run([program, *enough_for([text.encode()]), path, *streams]).out
+    assert (found.splitlines()[stream - 1]
+            == f"c stream {stream}: {added} added, {deleted} deleted, ended")
 
 
-def rows(program: str) -> List[Row]:
-    refused = [(name, stops, *rest)
-               for name, *rest in refusals() + refusals_of_frat() + refusals_in_binary()]
-    return refused + what_comes_out(program)
+def test_a_clause_that_the_formula_has_twice(tmp_path: Path) -> None:
+    """Two `o` lines name both copies of a clause that the formula has twice: one is deleted, and
+    the other stays."""
+    formula = written("p cnf 2 5\n1 2 0\n-1 2 0\n1 -2 0\n-1 -2 0\n2 1 0\n", tmp_path)
+    text, said, status = exact([formula],
+                               "o 3 1 2 0\no 8 2 1 0\no 4 -1 2 0\nd 8 2 1 0\na 9 2 0 l 3 4 0\n")
+    deletion, addition = ("1", "5") if text.startswith("1 d 1 ") else ("5", "1")
+    assert text == f"1 d {deletion} 0\n6 2 0 {addition} 2 0\n"
+    assert (said, status) == ("", 0)
 
 
-test_row = parametrized(rows(PROGRAM))
+def test_names_far_from_each_other(program: str, tmp_path: Path) -> None:
+    """Few but large identities of FRAT, added and deleted in any order: each clause is found by its
+    identity."""
+    count, formula, proof = 1000, written(FOUR, tmp_path), TOLD
+    numbers, names = random.Random(count), []
+    for name in numbers.sample(range(10 ** 9, 10 ** 12), count):
+        proof += f"a {name} 1 2 0 l 20 0\n"
+        names.append(name)
+        while names and numbers.randrange(2):
+            proof += f"d {names.pop(numbers.randrange(len(names)))} 1 2 0\n"
+    numbers.shuffle(names)
+    proof += "".join(f"d {name} 1 2 0\n" for name in names)
+    text, said, status = exact([formula], proof)
+    assert text.count(" d ") == count
+    assert (said, status) == ("", 0)
+    check_report(program, formula, text, f"{count} added, {count} deleted, ended", tmp_path)
+
+
+def test_hints_that_are_held(program: str, tmp_path: Path) -> None:
+    """In many steps over the same literals, hints come before the hints that make them unit: no
+    step affects the next."""
+    count, proof = 100, ""
+    numbers = random.Random(count)
+    clauses = [[-variable, -variable - 1, -variable - 2, variable + 3]
+               for variable in range(1, count + 1)]
+    formula = written(dimacs(count + 3, clauses), tmp_path)
+    for identity in range(count + 1, 2 * count + 1):
+        first = numbers.randrange(1, count + 1)
+        hints = list(range(first, numbers.randrange(first, count + 1) + 1))
+        last = hints[-1] + 3
+        numbers.shuffle(hints)
+        proof += (f"{identity} -{first} -{first + 1} -{first + 2} {last} 0 "
+                  f"{' '.join(map(str, hints))} 0\n")
+    text, said, status = exact([formula], proof)
+    assert (said, status) == ("", 0)
+    check_report(program, formula, text, f"{count} added, 0 deleted, ended", tmp_path)
+
+
+@pytest.mark.parametrize("words", [[], ["--format", "drat"]], ids=" ".join)
+@pytest.mark.parametrize("name", COMPRESSED)
+def test_compressed(name: str, words: List[str], tmp_path: Path) -> None:
+    """A compressed formula or proof: the message names the program that unpacks it."""
+    formula = written(FOUR, tmp_path)
+    packed = written(COMPRESSED[name] + b"\0" * 100, tmp_path, "packed")
+    assert (exact([*words, packed, "/dev/null"])
+            == ("", f"lrup-exact: {packed}: compressed: unpack it with {name}\n", 1))
+    assert (exact([*words, formula, packed])
+            == ("", f"lrup-exact: byte 1: compressed: unpack it with {name}\n", 1))
+
+
+@pytest.mark.parametrize("line", ["6 3 0 1 0", "6 x 0 1 0", "6 2 1"])
+def test_the_stream_of_another_is_wrong(line: str, tmp_path: Path) -> None:
+    """The file of --other isn't LRAT text with increasing identities over the formula's
+    literals."""
+    other = written(f"{line}\n8 2 0 1 2 0\n", tmp_path, "other")
+    want_stop(FOUR, FIRST + "7 1 -2 0 8 0\n", f"line 2: {other}: ", FIRST,
+              ONE_OF_TWO + ["--other", f"2={other}"], tmp_path)
+
+
+def test_the_stream_of_another_is_long(program: str, tmp_path: Path) -> None:
+    """Another stream has so many clauses that the filter gives memory back."""
+    formula, count = written(FOUR, tmp_path), 9000
+    theirs = ("".join(f"{6 + 2 * number} 1 2 0 1 0\n" for number in range(count))
+              + f"{6 + 2 * count} 2 0 1 2 0\n")
+    ours = "".join(f"{5 + 2 * number} 1 2 0 {6 + 2 * number} 0\n" for number in range(count))
+    ours += f"{5 + 2 * count} 0 {6 + 2 * count} 3 4 0\n"
+    other = written(theirs, tmp_path, "other")
+    text, said, status = exact([*ONE_OF_TWO, "--other", f"2={other}", formula], ours)
+    assert text == ours
+    assert (said, status) == ("", 0)
+    check(program, formula, [(written(text, tmp_path, "exact"), count + 1), (other, count + 1)])
+
+
+def test_summary_and_version() -> None:
+    text, said, status = exact(["--help"])
+    assert (said, status) == ("", 0)
+    assert text.startswith("usage: lrup-exact ")
+    version = (ROOT / "VERSION").read_text().strip()
+    assert run([FILTER, "--version"]) == Ran(f"lrup-exact {version}\n", "", 0)

@@ -20,10 +20,11 @@ import subprocess
 from pathlib import Path
 from typing import Any, Callable, Iterator, List, Optional, Sequence, Tuple
 
-from harness import (BUILDS, COUNT, EXACT, FIRST, PROGRAM, SANITIZE, SANITIZING, SMALL_ROW, TESTS,
+from harness import (BUILDS, COUNT, FIRST, PROGRAM, SANITIZE, SANITIZING, SMALL_ROW, SUPPORT,
                      Ran, Row, enough_for, example, feed, for_tests, lacking, parametrized, piped,
-                     run, sanitized_filter, sanitizer, started, text_of, written)
-from proof_forms import FORMS, Clause, Step, frat, read_formula, read_steps, varint
+                     run, sanitized_filter, sanitizer, sources_of, started, text_of, written)
+from mutations import mutated_bytes, mutated_steps
+from proof_forms import FORMS, Clause, Step, frat, read_formula, read_steps
 
 KEPT, FORKING = BUILDS / "mutants", BUILDS / "lrup-exact-forking"
 SECONDS = 120
@@ -38,10 +39,6 @@ LONG = 9000             # the clauses of a long proof, enough for the filter to 
 LONG_ONES = 0.02        # the share of long proofs
 FAR = 10 ** 12          # the usual distance between names of FRAT
 WORDS = ["lrat", "drat", "frat", "binary-lrat", "binary-drat"]
-HUGE = [1 << 31, (1 << 31) - 1, 1 << 32, (1 << 63) - 1, 1 << 63, 1 << 64, 10 ** 17, 10 ** 18 - 1,
-        10 ** 18, 10 ** 40, 16777215, 16777216, 65536, (1 << 57) - 1]
-LETTERS = [b"a", b"d", b"i", b"l", b"o", b"f", b"r", b"c", b"x", b"-", b"+1", b"0", b"00", b"-0",
-           b"07", b"0x1", b"1.5"]
 
 NUMBER = rb"[1-9][0-9]{0,17}"
 LINE = re.compile(rb"(?:" + NUMBER + rb" (?:-?" + NUMBER + rb" )*0 (?:" + NUMBER + rb" )*0|"
@@ -87,63 +84,6 @@ def proofs() -> Tuple[List[Base], List[Base]]:
     return short, in_each_form("pigeonhole.cnf", copies)
 
 
-# Mutations, first of steps, then of bytes.
-
-
-def mutated_steps(steps: List[bytes], numbers: random.Random) -> bytes:
-    steps = list(steps)
-    for _ in range(numbers.choice((0, 0, 1, 1, 2, 5))):
-        one, other = numbers.randrange(len(steps)), numbers.randrange(len(steps))
-        what = numbers.randrange(4)
-        if what == 0:
-            steps.insert(other, steps[one])
-        elif what == 1:
-            steps[one], steps[other] = steps[other], steps[one]
-        elif what == 2 and len(steps) > 1:
-            del steps[one]
-        else:
-            steps[one:one] = [steps[other]] * numbers.choice((2, 3, 300))
-    return b"".join(steps)
-
-
-def other_word(proof: bytes, numbers: random.Random) -> bytes:
-    """Replaces a word of the text by another one."""
-    words = list(re.finditer(rb"[^ \n]+", proof))
-    if not words:
-        return proof
-    word = numbers.choice(words)
-    new = (numbers.choice(LETTERS) if numbers.random() < 0.5
-           else numbers.choice((b"", b"-")) + str(numbers.choice(HUGE)).encode())
-    return proof[:word.start()] + new + proof[word.end():]
-
-
-def other_bytes(proof: bytes, numbers: random.Random) -> bytes:
-    """Inserts, removes or flips bytes."""
-    at = numbers.randrange(len(proof) + 1)
-    what = numbers.randrange(5)
-    if what == 0:
-        return proof[:at] + proof[at + 1:]
-    if what == 1:
-        return (proof[:at]
-                + bytes(numbers.choices(range(256), k=numbers.choice((1, 2, 9)))) + proof[at:])
-    if what == 2:
-        return proof[:at] + varint(numbers.choice(HUGE)) + proof[at:]
-    if what == 3:
-        byte = numbers.choice((b"\xff", b"\x80", b"\0", b" ", b"\n", b"9"))
-        return proof[:at] + byte * numbers.choice((1, 30, 5000)) + proof[at:]
-    return (proof[:at] + bytes(byte ^ 1 << numbers.randrange(8) for byte in proof[at:at + 1])
-            + proof[at + 1:])
-
-
-def mutated_bytes(proof: bytes, binary: bool, numbers: random.Random) -> bytes:
-    for _ in range(numbers.choice((0, 1, 1, 1, 2, 4))):
-        proof = (other_bytes(proof, numbers) if binary or numbers.random() < 0.5
-                 else other_word(proof, numbers))
-    if numbers.random() < 0.2:
-        proof = proof[:numbers.randrange(len(proof) + 1)]
-    return proof
-
-
 class Mutant:
     """The arguments of the filter's command, and the files that they name."""
 
@@ -177,7 +117,7 @@ class Mutant:
 @functools.lru_cache(maxsize=None)
 def forking_filter() -> Path:
     """The filter with the main of mutants.c."""
-    return for_tests(FORKING, [*EXACT.glob("*.c"), TESTS / "mutants.c"],
+    return for_tests(FORKING, [*sources_of("lrup-exact"), SUPPORT / "mutants.c"],
                      libraries=["-Wl,--wrap=main"])
 
 
@@ -191,7 +131,7 @@ def filtered(mutant: Mutant, filters: "subprocess.Popen[str]", work: Path) -> Ra
           file=filters.stdin, flush=True)
     status = int(filters.stdout.readline())
     given.unlink(missing_ok=True)
-    return Ran(*(text_of(path.read_bytes()) for path in (out, err)), status)
+    return Ran(text_of(out.read_bytes()), text_of(err.read_bytes()), status)
 
 
 # What each run has to satisfy.

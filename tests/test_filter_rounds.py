@@ -21,10 +21,10 @@ from typing import IO, Dict, Iterator, List, NamedTuple, Optional, Sequence, Set
 
 import pytest
 
-from harness import (BUILDS, EXACT, FILTER, FOUR, LIMIT, LRUP_CHAIN, PROGRAM, SANITIZE, SANITIZING,
-                     Row, added, dimacs, example, for_tests, generated, lacking, needs,
-                     parametrized, piped, report, run, sanitized_filter, sanitizer, started, until,
-                     unwatched, waiting, want, watched_ends, written)
+from harness import (BUILDS, FILTER, FOUR, LIMIT, LRUP_RECHECK, PROGRAM, SANITIZE, SANITIZING, Ran,
+                     added, dimacs, example, for_tests, generated, lacking, named, needs, piped,
+                     report, run, sanitized_filter, sanitizer, sources_of, started, until,
+                     unwatched, waiting, watched_ends, written)
 from proof_forms import FORMS, Step, read_formula, read_steps
 from rounds import last
 from solving import in_place_of_lrupd, of_process
@@ -80,12 +80,11 @@ def check_beside(running: "subprocess.Popen[bytes]", formula: Path, work: Path,
     ready = running.stdout.readline()
     if not ready:
         return Checked([], "", "", None, *end_of(running))
-    want(ready, b"d/round-1.stream-1\n", "the line that the filter writes")
+    assert ready == b"d/round-1.stream-1\n"
     done = run([lrupd, "--watch", *lrupd_words(formula)], cwd=work, stdin=running.stdout)
     rounds = watched_ends(done.err)
     if rounds:
-        want(done.out, last(len(rounds), rounds[-1:], done.status or 0),
-             "the report of the last round")
+        assert done.out == last(len(rounds), rounds[-1:], done.status or 0)
     return Checked(rounds, done.out, unwatched(done.err), done.status, *end_of(running))
 
 
@@ -104,10 +103,11 @@ def want_refuted(checked: Checked, least: int, most: int, work: Path) -> None:
     """The formula is refuted, in `least` to `most` rounds. The only file left is the empty one to
     which lrupd would have saved the last round's checkpoint."""
     count = len(checked.rounds)
-    want((checked.ends(), checked[2:]), ({"ended"}, ("", 0, "", 0)), "the ends, and what is said")
-    want((least <= count <= most, left(work)), (True, [f"round-{count + 1}.cnf"]),
-         f"{count} rounds, from {least} to {most}, and files")
-    want((work / "d" / f"round-{count + 1}.cnf").read_text(), "", "the file that is left")
+    assert checked.ends() == {"ended"}
+    assert checked[2:] == ("", 0, "", 0)
+    assert least <= count <= most
+    assert left(work) == [f"round-{count + 1}.cnf"]
+    assert (work / "d" / f"round-{count + 1}.cnf").read_text() == ""
 
 
 # Right proofs.
@@ -146,28 +146,37 @@ def want_added(checked: Checked, count: int, form: str) -> None:
     """There are as many additions as in the proof, or fewer if it has no hints, since the filter
     adds the empty clause as soon as unit propagation finds a conflict."""
     is_whole = "LRAT" in form or form == "FRAT with hints"
-    assert (count if is_whole else 1) <= checked.added() <= count, (
-        f"{checked.added()} additions of all rounds, and the proof has {count}")
+    assert (count if is_whole else 1) <= checked.added() <= count
 
 
-def recorded(name: str, stream: str, memory: str, least: int, most: int, form: str, is_named: bool,
-             program: Path, work: Path) -> None:
+def want_recorded(name: str, stream: str, memory: str, least: int, most: int, form: str,
+                  is_named: bool, program: Path, work: Path) -> None:
     proof, word, count = proof_of(name, stream, form)
     words = ["--memory", memory, *(["--format", word] if is_named else [])]
     checked = check(example(name), proof, words, work, program)
     if not is_named and form.startswith("binary") and "--format" in checked.filter_said:
-        return want((checked.filter_status, checked.status, checked.added()), (1, 3, 0),
-                    "the end, where the form isn't clear")
-    want_refuted(checked, least, most, work)
-    want_added(checked, count, form)
+        # The form isn't clear.
+        assert (checked.filter_status, checked.status, checked.added()) == (1, 3, 0)
+    else:
+        want_refuted(checked, least, most, work)
+        want_added(checked, count, form)
 
 
-def sanitized(name: str, stream: str, memory: str, least: int, most: int, form: str,
-              work: Path) -> None:
-    """Does what `recorded` does, with the build for tests."""
+@pytest.mark.parametrize("is_named", [True, False], ids=["named", "the form detected"])
+@pytest.mark.parametrize("form", FORMS)
+@pytest.mark.parametrize("name, stream, memory, least, most", RECORDED)
+def test_recorded(name: str, stream: str, memory: str, least: int, most: int, form: str,
+                  is_named: bool, tmp_path: Path) -> None:
+    want_recorded(name, stream, memory, least, most, form, is_named, FILTER, tmp_path)
+
+
+@pytest.mark.parametrize("name, stream, memory, least, most, form", [
+    *((*RECORDED[1], form) for form in FORMS), (*RECORDED[3], "binary DRAT")])
+def test_sanitized(name: str, stream: str, memory: str, least: int, most: int, form: str,
+                   tmp_path: Path) -> None:
     if not sanitizer():
         lacking(f"the C compiler doesn't build with {SANITIZE[3]}")
-    recorded(name, stream, memory, least, most, form, True, sanitized_filter(), work)
+    want_recorded(name, stream, memory, least, most, form, True, sanitized_filter(), tmp_path)
 
 
 # The solver's command, the form if it has to be given, the generator's arguments, the memory, and
@@ -183,257 +192,280 @@ SOLVED = [("cadical -q", "binary-drat", "random 180 3", "500K", 3, 8),
           ("cryptominisat5 --verb 0", "frat", "order 15", "1M", 2, 8)]
 
 
-def solved(command: str, form: str, words: str, memory: Optional[str], least: int, most: int,
-           live: bool, work: Path) -> None:
+@pytest.mark.parametrize("live", [False, True], ids=["from a file", "live"])
+@pytest.mark.parametrize("command, form, words, memory, least, most", SOLVED)
+def test_solved(command: str, form: str, words: str, memory: Optional[str], least: int, most: int,
+                live: bool, tmp_path: Path) -> None:
     """The proof comes through a pipe while the solver writes it, or from a file."""
     solver = shlex.split(command)
     needs(solver[0])
-    formula = generated(words, work)
-    proof = piped(work / "proof") if live else work / "proof"
+    formula = generated(words, tmp_path)
+    proof = piped(tmp_path / "proof") if live else tmp_path / "proof"
     given = [*(["--memory", memory] if memory else []), *(["--format", form] if form else []),
              formula, proof]
     with started([*solver, formula, proof], stdout=subprocess.DEVNULL,
                  stderr=subprocess.DEVNULL) as solving:
         if not live:
-            want(solving.wait(LIMIT), 20, "the solver's status")
-        with filtering(given, work) as running:
-            want_refuted(check_beside(running, formula, work), least, most, work)
-        want(solving.wait(LIMIT), 20, "the solver's status")
+            assert solving.wait(LIMIT) == 20
+        with filtering(given, tmp_path) as running:
+            want_refuted(check_beside(running, formula, tmp_path), least, most, tmp_path)
+        assert solving.wait(LIMIT) == 20
 
 
-def behind(work: Path) -> None:
+def test_after_the_empty_clause(tmp_path: Path) -> None:
     """What follows the empty clause needs no round, but is checked."""
-    formula = written(FOUR, work)
+    formula = written(FOUR, tmp_path)
     proof = "2 0\n0\n" + "1 2 0\n" * 1000
-    want_refuted(check(formula, proof, ["--memory", "1K"], work), 1, 1, work)
-    (work / "d" / "round-2.cnf").unlink()
-    checked = check(formula, proof + "3 0\n", ["--memory", "1K"], work)
-    want((checked.status, checked.filter_status, checked.filter_said),
-         (0, 1, "lrup-exact: line 1003: a variable that the formula doesn't have: 3, above the "
-          "header's 2\n"),
-         "the end of a proof with a wrong line after the empty clause")
+    want_refuted(check(formula, proof, ["--memory", "1K"], tmp_path), 1, 1, tmp_path)
+    (tmp_path / "d" / "round-2.cnf").unlink()
+    checked = check(formula, proof + "3 0\n", ["--memory", "1K"], tmp_path)
+    assert (checked.status, checked.filter_status) == (0, 1)
+    assert checked.filter_said == ("lrup-exact: line 1003: a variable that the formula doesn't "
+                                   "have: 3, above the header's 2\n")
 
 
-def rows_grow(work: Path) -> None:
+def test_rows_grow(tmp_path: Path) -> None:
     """The first row has 2^20 words, and is made for clauses of 16 literals. The next row is twice
     as large, and is made for clauses as long as the earlier ones, but of at most 200 literals. A
     row has enough lines for clauses of half that length."""
     literals = list(range(3, 1003))
-    formula = written(dimacs(1002, [[1, 2], [-1, 2], [1, -2], [-1, -2], literals]), work)
+    formula = written(dimacs(1002, [[1, 2], [-1, 2], [1, -2], [-1, -2], literals]), tmp_path)
     text = " ".join(map(str, literals))
     proof = "".join(f"{number} {text} 0 5 0\n{number} d {number} 0\n" for number in range(6, 3206))
-    checked = check(formula, proof + "3206 2 0 1 2 0\n3207 0 3206 3 4 0\n", [], work)
-    want_refuted(checked, 3, 3, work)
+    checked = check(formula, proof + "3206 2 0 1 2 0\n3207 0 3206 3 4 0\n", [], tmp_path)
+    want_refuted(checked, 3, 3, tmp_path)
     rooms = [words - int(words / (1 + length / 2))
              for words, length in ((1 << 20, 16), (1 << 21, 200))]
     fit = [room // len(literals) for room in rooms]
-    want([added([words]) for words in checked.rounds], [*fit, 3202 - sum(fit)],
-         "additions of the rounds")
+    assert [added([words]) for words in checked.rounds] == [*fit, 3202 - sum(fit)]
 
 
-def few_lines(formula: str, proof: str, status: int, said: str, work: Path) -> None:
-    checked = check(written(formula, work), proof, [], work)
-    want((len(checked.rounds), checked.status, checked.filter_said),
-         (1, status, said), "the answer")
-    want(left(work), ["round-2.cnf"], "the files left")
+EMPTY = "p cnf 2 2\n1 2 0\n0\n"
+
+
+@pytest.mark.parametrize("formula, proof, status, said", named([
+    ("no clauses", "p cnf 0 0\n", "", 3, ""),
+    ("no clauses, and a step", "p cnf 1 0\n", "1 0\n", 3, "lrup-exact: line 1: no conflict by "
+     "unit propagation: the clause 1 0 is a RAT step, which lrupd doesn't check\n"),
+    ("an empty clause, and no step", EMPTY, "", 3, ""), ("an empty clause", EMPTY, "0\n", 0, ""),
+    ("the empty clause alone", "p cnf 0 1\n0\n", "0\n", 0, ""),
+    ("four clauses", FOUR, "2 0\n0\n", 0, ""),
+    ("no step", FOUR, "", 3, ""), ("one step", FOUR, "2 0\n", 3, "")]))
+def test_few_lines(formula: str, proof: str, status: int, said: str, tmp_path: Path) -> None:
+    checked = check(written(formula, tmp_path), proof, [], tmp_path)
+    assert len(checked.rounds) == 1
+    assert checked.status == status
+    assert checked.filter_said == said
+    assert left(tmp_path) == ["round-2.cnf"]
 
 
 # Wrong proofs.
 
 
-def cut(parts: int, form: str, work: Path) -> None:
-    """All whole steps are checked; the last round has status 3."""
+each_kind = pytest.mark.parametrize("form", ["LRAT text", "DRAT text", "binary DRAT"])
+
+
+@each_kind
+@pytest.mark.parametrize("parts", [4, 8])
+def test_cut(parts: int, form: str, tmp_path: Path) -> None:
+    """So many tenths of a proof: all whole steps are checked; the last round has status 3."""
     proof, word, count = proof_of("bmc.cnf", "bmc.lrup", form)
     whole = proof[:len(proof) * parts // 10]
-    checked = check(example("bmc.cnf"), whole, ["--memory", "48K", "--format", word], work)
+    checked = check(example("bmc.cnf"), whole, ["--memory", "48K", "--format", word], tmp_path)
     rounds = len(checked.rounds)
-    want((checked.ends(), checked.said, checked.status), ({"ended"}, "", 3), "the end")
-    want((1 < rounds < 50, 0 < checked.added() < count, left(work)),
-         (True, True, [f"round-{rounds + 1}.cnf"]),
-         f"{rounds} rounds, {checked.added()} additions, and what is left")
+    assert checked.ends() == {"ended"}
+    assert checked.said == ""
+    assert checked.status == 3
+    assert 1 < rounds < 50
+    assert 0 < checked.added() < count
+    assert left(tmp_path) == [f"round-{rounds + 1}.cnf"]
     if checked.filter_said:
-        want((checked.filter_status, "the proof ends within a step" in checked.filter_said),
-             (1, True), checked.filter_said)
+        assert checked.filter_status == 1, checked.filter_said
+        assert "the proof ends within a step" in checked.filter_said
 
 
-def wrong(form: str, at: int, work: Path) -> None:
+@each_kind
+def test_a_wrong_step(form: str, tmp_path: Path) -> None:
     """A step in the middle doesn't follow: the message has that step's place in the whole proof."""
-    word, make = FORMS[form]
+    at, (word, make) = 2500, FORMS[form]
     formula, steps = read_formula(example("bmc.cnf")), tidied(read_steps(example("bmc.lrup")))
     before = make(formula, steps[:at])
     place = (f"step {len(before) + 1}, byte {len(b''.join(before)) + 1}"
              if form.startswith("binary") else f"line {len(before) + 1}")
     steps[at:at] = [Step("a", steps[at].identity, [1], [])]
     checked = check(example("bmc.cnf"), b"".join(make(formula, steps)),
-                    ["--memory", "48K", "--format", word], work)
-    want((checked.status, checked.ends(), checked.filter_status), (3, {"ended"}, 1), "the end")
+                    ["--memory", "48K", "--format", word], tmp_path)
+    assert checked.status == 3
+    assert checked.ends() == {"ended"}
+    assert checked.filter_status == 1
     count = sum(step.kind == "a" for step in steps[:at])
-    want((checked.added(), len(checked.rounds) > 2), (count, True),
-         "additions before it, in more than two rounds")
-    assert checked.filter_said.startswith(f"lrup-exact: {place}: no conflict"), (
-        f"wanted a word on {place}, not\n{checked.filter_said}")
+    assert checked.added() == count
+    assert len(checked.rounds) > 2
+    assert checked.filter_said.startswith(f"lrup-exact: {place}: no conflict")
 
 
 @functools.lru_cache(maxsize=None)
 def largest_row() -> Path:
-    return for_tests(BUILDS / "lrup-exact-largest-row", EXACT.glob("*.c"),
+    return for_tests(BUILDS / "lrup-exact-largest-row", sources_of("lrup-exact"),
                      f"-DMOST_WORDS={WORDS}")
 
 
-def no_room(work: Path) -> None:
+def test_no_room(tmp_path: Path) -> None:
     """If lrupd can't make a larger row, there may be no room for the formula or for carried
     clauses."""
     said = "leave{} no room in a row of " + f"{8 * WORDS} bytes\n"
-    checked = check(generated("random 400 1", work), "", [], work, largest_row())
-    want((checked, left(work)),
-         (Checked([], "", "", None, f"lrup-exact: the formula {said.format('s')}", 1), []),
-         "the end")
+    checked = check(generated("random 400 1", tmp_path), "", [], tmp_path, largest_row())
+    assert checked == Checked([], "", "", None, f"lrup-exact: the formula {said.format('s')}", 1)
+    assert left(tmp_path) == []
     proof = "".join(line for line in example("bmc.lrup").read_text().splitlines(True)
                     if " d " not in line)
-    checked = check(example("bmc.cnf"), proof, ["--memory", "20K"], work, largest_row())
-    found = re.fullmatch(
-        r"lrup-exact: line (\d+): the solver's clauses " + said.format(""),
-        checked.filter_said)
-    want((checked.status, checked.filter_status, found and int(found[1])),
-         (3, 1, checked.added() + 1), checked.filter_said)
-    (work / "d" / f"round-{len(checked.rounds) + 1}.cnf").unlink()
-    want_refuted(check(example("bmc.cnf"), proof, ["--memory", "20K"], work), 3, 20, work)
+    checked = check(example("bmc.cnf"), proof, ["--memory", "20K"], tmp_path, largest_row())
+    assert (checked.status, checked.filter_status) == (3, 1), checked.filter_said
+    line = checked.added() + 1
+    assert checked.filter_said == (f"lrup-exact: line {line}: the solver's clauses "
+                                   + said.format(""))
+    (tmp_path / "d" / f"round-{len(checked.rounds) + 1}.cnf").unlink()
+    want_refuted(check(example("bmc.cnf"), proof, ["--memory", "20K"], tmp_path), 3, 20, tmp_path)
 
 
-def room_for_one(work: Path) -> None:
+def test_room_for_one_clause(tmp_path: Path) -> None:
     """Whatever --memory says, there is room for the formula, and for one clause."""
     literals = " ".join(map(str, range(1, 201)))
-    formula = written(f"p cnf 201 2\n{literals} 201 0\n-201 0\n", work)
-    checked = check(formula, f"{literals} 0\n", ["--memory", "1"], work)
-    want((checked.added(), checked[2:]), (1, ("", 3, "", 0)), "the end")
+    formula = written(f"p cnf 201 2\n{literals} 201 0\n-201 0\n", tmp_path)
+    checked = check(formula, f"{literals} 0\n", ["--memory", "1"], tmp_path)
+    assert checked.added() == 1
+    assert checked[2:] == ("", 3, "", 0)
 
 
-def imported(work: Path) -> None:
+def test_an_import(tmp_path: Path) -> None:
     """An import is refused, as in lrup-solve for a single solver."""
-    checked = check(written(FOUR, work), "1 i 1 2 0\n", [], work)
-    want((checked.status, checked.filter_said),
-         (3, "lrup-exact: line 1: an import, but the solver shares nothing\n"), "the end")
+    checked = check(written(FOUR, tmp_path), "1 i 1 2 0\n", [], tmp_path)
+    assert checked.status == 3
+    assert checked.filter_said == "lrup-exact: line 1: an import, but the solver shares nothing\n"
 
 
 # The folder and the arguments.
 
 
-def in_the_way(name: str, work: Path) -> None:
+@pytest.mark.parametrize("name", ["round-1.stream-1", "round-1.stream-2", "round-1.sizes",
+                                  "round-2.cnf", "round-7.sizes"])
+def test_files_of_rounds_are_there(name: str, tmp_path: Path) -> None:
     """A folder with files of rounds is refused, and nothing is touched."""
-    (work / "d").mkdir()
-    path = written("mine", work / "d", name)
-    checked = check(written(FOUR, work), "0\n", [], work)
+    (tmp_path / "d").mkdir()
+    path = written("mine", tmp_path / "d", name)
+    checked = check(written(FOUR, tmp_path), "0\n", [], tmp_path)
     said = f"lrup-exact: d/{name}: exists, but --rounds needs a folder without files of rounds\n"
-    want((checked, path.read_text(), left(work)),
-         (Checked([], "", "", None, said, 1), "mine", [name]), "the end, and the file")
+    assert checked == Checked([], "", "", None, said, 1)
+    assert path.read_text() == "mine"
+    assert left(tmp_path) == [name]
 
 
-def beside_others(work: Path) -> None:
+def test_other_files(tmp_path: Path) -> None:
     """The folder exists and has other files, one of which is the formula."""
-    (work / "d").mkdir()
-    formula = written(FOUR, work / "d", "formula of round-1")
-    checked = check(formula, "2 0\n0\n", [], work)
-    want((checked[2:], left(work)), (("", 0, "", 0), ["formula of round-1", "round-2.cnf"]),
-         "the end, and what is left")
+    (tmp_path / "d").mkdir()
+    formula = written(FOUR, tmp_path / "d", "formula of round-1")
+    checked = check(formula, "2 0\n0\n", [], tmp_path)
+    assert checked[2:] == ("", 0, "", 0)
+    assert left(tmp_path) == ["formula of round-1", "round-2.cnf"]
 
 
-def others_write(mode: int, taken: bool, work: Path) -> None:
+@pytest.mark.parametrize("mode, taken", [
+    pytest.param(mode, taken, id=f"{mode:o}")
+    for mode, taken in ((0o777, False), (0o757, False), (0o1777, True), (0o775, True),
+                        (0o700, True))])
+def test_mode_of_the_folder(mode: int, taken: bool, tmp_path: Path) -> None:
     """If other users may remove files, they may replace a stream; if the folder is sticky, they
     can't."""
-    (work / "d").mkdir()
-    (work / "d").chmod(mode)
-    checked = check(written(FOUR, work), "2 0\n0\n", [], work)
+    (tmp_path / "d").mkdir()
+    (tmp_path / "d").chmod(mode)
+    checked = check(written(FOUR, tmp_path), "2 0\n0\n", [], tmp_path)
     wanted = ((0, "", 0) if taken
               else (None, "lrup-exact: d: other users may write to this folder\n", 1))
-    want((checked.status, checked.filter_said, checked.filter_status), wanted, "the ends")
+    assert (checked.status, checked.filter_said, checked.filter_status) == wanted
 
 
-def made_where_all_may_write(work: Path) -> None:
-    formula = written(FOUR, work)
+def test_mode_of_a_folder_that_is_made(tmp_path: Path) -> None:
+    formula = written(FOUR, tmp_path)
     with started(["sh", "-c", 'umask 0; exec "$@"', "sh", FILTER, "--rounds", "d", formula,
                   "/dev/null"],
-                 cwd=work, stdout=subprocess.DEVNULL):
-        until("the first stream", lambda: (work / "d" / "round-1.stream-1").exists())
-        want((work / "d").stat().st_mode & 0o7777, 0o775, "the mode of the folder that is made")
+                 cwd=tmp_path, stdout=subprocess.DEVNULL):
+        until("the first stream", lambda: (tmp_path / "d" / "round-1.stream-1").exists())
+        assert (tmp_path / "d").stat().st_mode & 0o7777 == 0o775
 
 
-def put_in_place(how: str, work: Path) -> None:
+@pytest.mark.parametrize("how", ["link", "file"])
+def test_a_file_in_place_of_the_fifo(how: str, tmp_path: Path) -> None:
     """A file that replaces the FIFO isn't written to."""
-    mine = written("mine", work, "mine")
-    with filtering([written(FOUR, work), written("2 0\n0\n", work, "proof")], work) as running:
+    mine = written("mine", tmp_path, "mine")
+    proof = written("2 0\n0\n", tmp_path, "proof")
+    with filtering([written(FOUR, tmp_path), proof], tmp_path) as running:
         assert running.stdout and running.stderr
         running.stdout.readline()
-        place = work / "d" / "round-1.stream-1"
+        place = tmp_path / "d" / "round-1.stream-1"
         place.unlink()
-        {"link": lambda: place.symlink_to(mine), "file": lambda: os.link(mine, place)}[how]()
-        end = running.stderr.read().decode(), running.wait(LIMIT)
-    want(end, ("lrup-exact: d/round-1.stream-1: another file is in its place\n", 1), "the end")
-    want(mine.read_text(), "mine", "the file's content")
+        if how == "link":
+            place.symlink_to(mine)
+        else:
+            os.link(mine, place)
+        said, status = running.stderr.read().decode(), running.wait(LIMIT)
+    assert said == "lrup-exact: d/round-1.stream-1: another file is in its place\n"
+    assert status == 1
+    assert mine.read_text() == "mine"
 
 
-def another_folder(work: Path) -> None:
+def test_another_folder_takes_the_name(tmp_path: Path) -> None:
     """If another folder takes the folder's name, nothing in it is written or removed."""
-    formula, names = written(FOUR, work), ["round-1.sizes", "round-1.stream-1", "round-2.sizes",
-                                           "round-2.stream-1"]
-    with filtering([formula, written("2 0\n0\n", work, "proof")], work) as running:
+    formula = written(FOUR, tmp_path)
+    names = ["round-1.sizes", "round-1.stream-1", "round-2.sizes", "round-2.stream-1"]
+    with filtering([formula, written("2 0\n0\n", tmp_path, "proof")], tmp_path) as running:
         assert running.stdout
         running.stdout.readline()
-        (work / "d").rename(work / "moved")
-        mine = [written("mine", work / "other", name) for name in names]
-        (work / "d").symlink_to("other")
-        done = run([PROGRAM, "--rounds", "moved", formula, "moved/round-1.stream-1"], cwd=work,
+        (tmp_path / "d").rename(tmp_path / "moved")
+        mine = [written("mine", tmp_path / "other", name) for name in names]
+        (tmp_path / "d").symlink_to("other")
+        done = run([PROGRAM, "--rounds", "moved", formula, "moved/round-1.stream-1"], cwd=tmp_path,
                    stdin=running.stdout)
-        want((done.err, done.status, end_of(running)), ("", 0, ("", 0)), "the ends")
-    want(([path.read_text() for path in mine], left(work)), (["mine"] * len(mine), names),
-         "the files in the other folder")
-    want(os.listdir(work / "moved"), ["round-2.cnf"], "the files left")
+        assert (done.err, done.status) == ("", 0)
+        assert end_of(running) == ("", 0)
+    assert [path.read_text() for path in mine] == ["mine"] * len(mine)
+    assert left(tmp_path) == names
+    assert os.listdir(tmp_path / "moved") == ["round-2.cnf"]
 
 
-def without_errors(closing: str, work: Path) -> None:
-    """With standard error closed, messages don't get into the stream."""
-    formula, proof = written(FOUR, work), written("2 0\n3 0\n", work, "proof")
+@pytest.mark.parametrize("closing", ["2>&-", "<&- 2>&-"])
+def test_standard_error_is_closed(closing: str, tmp_path: Path) -> None:
+    """Messages don't get into the stream."""
+    formula, proof = written(FOUR, tmp_path), written("2 0\n3 0\n", tmp_path, "proof")
     with started(["sh", "-c", f'exec "$@" {closing}', "sh", FILTER, "--rounds", "d",
                   formula, proof],
-                 cwd=work, stdin=subprocess.DEVNULL, stdout=subprocess.PIPE, stderr=subprocess.PIPE,
-                 bufsize=0) as running:
-        checked = check_beside(running, formula, work)
-    want((checked.ends(), checked.added(), checked.status, checked.filter_status),
-         ({"ended"}, 1, 3, 1), "the ends")
+                 cwd=tmp_path, stdin=subprocess.DEVNULL, stdout=subprocess.PIPE,
+                 stderr=subprocess.PIPE, bufsize=0) as running:
+        checked = check_beside(running, formula, tmp_path)
+    assert checked.ends() == {"ended"}
+    assert checked.added() == 1
+    assert checked.status == 3
+    assert checked.filter_status == 1
 
 
-def locked(work: Path) -> None:
+def test_the_folder_of_another_run(tmp_path: Path) -> None:
     """A run locks its folder until it ends, however it ends, even between rounds. The lock holds
     for runs that use another name for the folder, too."""
-    os.symlink("d", work / "link")
-    with in_a_round(work) as sides:
+    os.symlink("d", tmp_path / "link")
+    with in_a_round(tmp_path) as sides:
         for name in ("d", "link"):
-            done = run([FILTER, "--rounds", name, example("bmc.cnf"), "/dev/null"], cwd=work)
-            want(done[:], ("", f"lrup-exact: {name}: another run uses this folder\n", 1),
-                 "the message while it runs")
+            done = run([FILTER, "--rounds", name, example("bmc.cnf"), "/dev/null"], cwd=tmp_path)
+            assert done == Ran("", f"lrup-exact: {name}: another run uses this folder\n", 1)
         sides.running.kill()
         sides.running.wait(LIMIT)
-        said = run([FILTER, "--rounds", "d", example("bmc.cnf"), "/dev/null"], cwd=work).err
-        want("but --rounds needs a folder without files of rounds" in said, True,
-             f"the message after it was killed: {said}")
+        said = run([FILTER, "--rounds", "d", example("bmc.cnf"), "/dev/null"], cwd=tmp_path).err
+        assert "but --rounds needs a folder without files of rounds" in said
 
 
-def no_folder(work: Path) -> None:
-    formula = written(FOUR, work, "d")
-    want(check(formula, "0\n", [], work)[4:], ("lrup-exact: d: Not a directory\n", 1),
-         "where a file has the name")
-    done = run([FILTER, "--rounds", "a/b", formula], cwd=work)
-    want(done[:], ("", "lrup-exact: a/b: No such file or directory\n", 1),
-         "where the folder above isn't there")
-
-
-def usage(words: str, cause: str, work: Path) -> None:
-    formula = written(FOUR, work)
-    done = run(
-        [FILTER, *(formula if word == "FORMULA" else word for word in words.split())], cwd=work)
-    want((done.out, done.err.splitlines()[-1], done.status), ("", f"lrup-exact: error: {cause}", 2),
-         "the messages")
-    want((done.err[:7], (work / "d").exists()), ("usage: ", False),
-         "the message's beginning, and whether there is a folder")
+def test_no_folder(tmp_path: Path) -> None:
+    formula = written(FOUR, tmp_path, "d")
+    assert check(formula, "0\n", [], tmp_path)[4:] == ("lrup-exact: d: Not a directory\n", 1)
+    done = run([FILTER, "--rounds", "a/b", formula], cwd=tmp_path)
+    assert done == Ran("", "lrup-exact: a/b: No such file or directory\n", 1)
 
 
 USAGE = [("--rounds", "no value after --rounds"), ("--rounds= FORMULA", "no folder after --rounds"),
@@ -450,25 +482,40 @@ USAGE += [(f"--rounds d --memory {word} FORMULA", f"not a size like 500000000, 5
           for word in ("0", "0G", "x", "1x", "1GB", "G", "-1", "1.5G", "+1")]
 
 
+@pytest.mark.parametrize("words, cause", USAGE)
+def test_usage(words: str, cause: str, tmp_path: Path) -> None:
+    formula = written(FOUR, tmp_path)
+    done = run(
+        [FILTER, *(formula if word == "FORMULA" else word for word in words.split())], cwd=tmp_path)
+    assert (done.out, done.status) == ("", 2)
+    assert done.err.startswith("usage: ")
+    assert done.err.splitlines()[-1] == f"lrup-exact: error: {cause}"
+    assert not (tmp_path / "d").exists()
+
+
 # If either side ends early, the other doesn't wait forever.
+
+# When one side is killed, the other may be anywhere in its round.
+KILLED = pytest.mark.flaky(reruns=2)
 
 
 def gone(number: int) -> str:
     return GONE + f"d/round-{number}.stream-1\n"
 
 
-def lrupd_ends(body: str, status: int, awaited: int, work: Path) -> None:
+@pytest.mark.parametrize("body, status, awaited", named([
+    ("status 9", "cat $stream > /dev/null; exit 9", 9, 2), ("not opened", "exit 6", 6, 1)]))
+def test_lrupd_ends(body: str, status: int, awaited: int, tmp_path: Path) -> None:
     """lrupd ends in round 1, for a reason of its own. The filter notices that at the FIFO of that
     round or of the next one."""
     proof, word, _ = proof_of("bmc.cnf", "bmc.lrup", "binary DRAT")
-    lrupd = in_place_of_lrupd(f"for stream; do :; done; {body}", work)
+    lrupd = in_place_of_lrupd(f"for stream; do :; done; {body}", tmp_path)
     checked = check(example("bmc.cnf"), proof, ["--memory", "48K", "--format", word],
-                    work, lrupd=lrupd)
-    want((checked.status, checked.filter_status), (status, 1), "the ends")
+                    tmp_path, lrupd=lrupd)
+    assert (checked.status, checked.filter_status) == (status, 1)
     place = "((step [0-9]+, )?byte [0-9]+: )?"
-    assert re.fullmatch(f"lrup-exact: {place}{gone(awaited)}", checked.filter_said), (
-        f"wanted '{gone(awaited)}', not\n{checked.filter_said}")
-    want(left(work), [], "files that are left")
+    assert re.fullmatch(f"lrup-exact: {place}{gone(awaited)}", checked.filter_said)
+    assert left(tmp_path) == []
 
 
 class Sides(NamedTuple):
@@ -506,41 +553,49 @@ def in_a_round(work: Path) -> Iterator[Sides]:
     with filtering(["--memory", "48K", "--format", word, example("bmc.cnf"), path],
                    work) as running, open(path, "wb", buffering=0) as pipe:
         assert running.stdout
-        want(running.stdout.readline(), b"d/round-1.stream-1\n", "the line that the filter writes")
-        with started([PROGRAM, *lrupd_words(example("bmc.cnf"))], cwd=work, stdin=running.stdout,
-                     stdout=subprocess.DEVNULL, stderr=subprocess.PIPE, text=True) as checking:
+        assert running.stdout.readline() == b"d/round-1.stream-1\n"
+        with started([PROGRAM, *lrupd_words(example("bmc.cnf"))], cwd=work,
+                     stdin=running.stdout, stdout=subprocess.DEVNULL, stderr=subprocess.PIPE,
+                     text=True) as checking:
             pipe.write(proof[:half])
             until("a round is on", lambda: all(is_on(pipe, work) for _ in range(5)))
             yield Sides(running, checking, pipe, proof[half:])
 
 
-def lrupd_killed(work: Path) -> None:
+@KILLED
+def test_lrupd_is_killed(tmp_path: Path) -> None:
     """Nobody will read the next stream. The current stream can't be written, or was written just
     before lrupd was killed."""
-    with in_a_round(work) as sides:
+    with in_a_round(tmp_path) as sides:
         sides.checking.kill()
         sides.go_on()
         said, status, filter_said, filter_status = sides.ends()
-    want((said, status, filter_status), ("", -signal.SIGKILL, 1), f"the ends, after\n{filter_said}")
-    assert re.fullmatch(rf"lrup-exact: (cannot write the stream: Broken pipe|"
-                        rf"step \d+, byte \d+: {GONE}d/round-\d+\.stream-1)\n",
-                        filter_said), (f"the filter's message: {filter_said}")
+    assert (said, status, filter_status) == ("", -signal.SIGKILL, 1), filter_said
+    assert re.fullmatch(r"lrup-exact: (cannot write the stream: Broken pipe|"
+                        rf"step \d+, byte \d+: {GONE}d/round-\d+\.stream-1)\n", filter_said)
 
 
-def filter_killed(by: int, work: Path) -> None:
-    with in_a_round(work) as sides:
+@KILLED
+@pytest.mark.parametrize("by", [signal.SIGKILL, signal.SIGTERM])
+def test_the_filter_is_killed(by: signal.Signals, tmp_path: Path) -> None:
+    with in_a_round(tmp_path) as sides:
         os.kill(sides.running.pid, by)
-        want(sides.ends(), ("", 3, "", -by), "the ends")
+        assert sides.ends() == ("", 3, "", -by)
 
 
-def ended_before_it_begins(by: int, work: Path) -> None:
+each_signal = pytest.mark.parametrize("by", [signal.SIGTERM, signal.SIGINT, signal.SIGHUP])
+
+
+@each_signal
+def test_ended_before_lrupd_begins(by: signal.Signals, tmp_path: Path) -> None:
     """A signal ends the filter while it waits for lrupd to start."""
-    with filtering([example("bmc.cnf"), "/dev/null"], work) as running:
+    with filtering([example("bmc.cnf"), "/dev/null"], tmp_path) as running:
         assert running.stdout
         running.stdout.readline()
-        want(left(work), ["round-1.sizes", "round-1.stream-1"], "the first files")
+        assert left(tmp_path) == ["round-1.sizes", "round-1.stream-1"]
         os.kill(running.pid, by)
-        want((end_of(running), left(work)), (("", -by), []), "the end, and what is left")
+        assert end_of(running) == ("", -by)
+        assert left(tmp_path) == []
 
 
 def sleeps(pid: int) -> bool:
@@ -548,125 +603,58 @@ def sleeps(pid: int) -> bool:
     return of_process(pid, "stat").rsplit(")", 1)[-1].split()[:1] == ["S"]
 
 
-def ended_while_lrupd_waits(by: int, work: Path) -> None:
+@KILLED
+@each_signal
+def test_ended_while_lrupd_waits(by: signal.Signals, tmp_path: Path) -> None:
     """lrupd is at the FIFO, but the filter isn't yet: lrupd gets an empty stream."""
     formula = example("bmc.cnf")
-    with filtering([formula, "/dev/null"], work) as running:
+    with filtering([formula, "/dev/null"], tmp_path) as running:
         assert running.stdout
         running.stdout.readline()
         os.kill(running.pid, signal.SIGSTOP)
-        with started([PROGRAM, *lrupd_words(formula)], cwd=work, stdin=subprocess.DEVNULL,
+        with started([PROGRAM, *lrupd_words(formula)], cwd=tmp_path, stdin=subprocess.DEVNULL,
                      stdout=subprocess.PIPE, stderr=subprocess.PIPE, text=True) as checking:
             until("lrupd is at the FIFO", lambda: all(sleeps(checking.pid) for _ in range(6)))
             for number in (by, signal.SIGCONT):
                 os.kill(running.pid, number)
             out, said = checking.communicate(timeout=LIMIT)
-        want((out, said, checking.returncode), (report(["0 added, 0 deleted, ended"], 3), "", 3),
-             "lrupd's answer")
-        want((end_of(running), left(work)), (("", -by), ["round-2.cnf"]),
-             "the end, and what is left")
+        assert (said, checking.returncode) == ("", 3)
+        assert out == report(["0 added, 0 deleted, ended"], 3)
+        assert end_of(running) == ("", -by)
+        assert left(tmp_path) == ["round-2.cnf"]
 
 
-def nobody(work: Path) -> None:
-    """The reader of standard output ends before lrupd begins."""
-    with filtering([example("bmc.cnf"), "/dev/null"], work) as running:
+def test_the_reader_ends_before_lrupd_begins(tmp_path: Path) -> None:
+    with filtering([example("bmc.cnf"), "/dev/null"], tmp_path) as running:
         assert running.stdout
         running.stdout.readline()
         time.sleep(0.2)
-        want(running.poll(), None, "whether it has ended before")
-        want((end_of(running), left(work)), (("lrup-exact: " + gone(1), 1), []),
-             "the end, and what is left")
+        assert running.poll() is None
+        assert end_of(running) == ("lrup-exact: " + gone(1), 1)
+        assert left(tmp_path) == []
 
 
-def without_a_pipe(work: Path) -> None:
-    """Standard output is a file, and lrup-chain begins once the first stream exists."""
-    formula, proof = example("pigeonhole.cnf"), written(
-        proof_of("pigeonhole.cnf", "pigeonhole.lrup", "LRAT text")[0], work, "proof")
-    with open(work / "out", "wb") as out, started(
-            [FILTER, "--rounds=d", "--memory=3K", formula, proof], cwd=work, stdout=out) as running:
-        until("the first stream", lambda: (work / "d" / "round-1.stream-1").exists())
-        done = run([LRUP_CHAIN, "--lrupd", PROGRAM, formula, "d"], cwd=work)
-        want((done.status, done.err, running.wait(LIMIT), left(work)), (0, "", 0, []),
-             "the ends, and what is left")
-    want((work / "out").read_text(), "d/round-1.stream-1\n", "standard output")
+def test_without_a_pipe(tmp_path: Path) -> None:
+    """Standard output is a file, and lrup-recheck begins once the first stream exists."""
+    formula, (text, _, _) = example("pigeonhole.cnf"), proof_of(
+        "pigeonhole.cnf", "pigeonhole.lrup", "LRAT text")
+    words = [FILTER, "--rounds=d", "--memory=3K", formula, written(text, tmp_path, "proof")]
+    with open(tmp_path / "out", "wb") as out, started(words, cwd=tmp_path, stdout=out) as running:
+        until("the first stream", lambda: (tmp_path / "d" / "round-1.stream-1").exists())
+        done = run([LRUP_RECHECK, "--lrupd", PROGRAM, "d", formula], cwd=tmp_path)
+        assert (done.err, done.status) == ("", 0)
+        assert running.wait(LIMIT) == 0
+        assert left(tmp_path) == []
+    assert (tmp_path / "out").read_text() == "d/round-1.stream-1\n"
 
 
-def ignored(work: Path) -> None:
+def test_an_ignored_signal(tmp_path: Path) -> None:
     """A signal that is ignored when the filter starts stays ignored."""
     def ignore() -> None:
         signal.signal(signal.SIGHUP, signal.SIG_IGN)
-    with started([FILTER, "--rounds", "d", example("bmc.cnf"), "/dev/null"], cwd=work,
+    with started([FILTER, "--rounds", "d", example("bmc.cnf"), "/dev/null"], cwd=tmp_path,
                  stdout=subprocess.DEVNULL, preexec_fn=ignore) as running:
-        until("the first stream", lambda: (work / "d" / "round-1.stream-1").exists())
+        until("the first stream", lambda: (tmp_path / "d" / "round-1.stream-1").exists())
         os.kill(running.pid, signal.SIGHUP)
         time.sleep(0.2)
-        want(running.poll(), None, "whether it has ended")
-
-
-# The tests.
-
-
-def rows_of_recorded() -> Iterator[Row]:
-    for name, stream, memory, least, most in RECORDED:
-        for form in FORMS:
-            for is_named in (True, False):
-                yield (f"{stream} in {memory}, {form}" + ", the form detected" * (not is_named),
-                       recorded, name, stream, memory, least, most, form, is_named, FILTER)
-
-
-def rows_sanitized() -> Iterator[Row]:
-    for form in FORMS:
-        yield (f"{form}, sanitized", sanitized, "pigeonhole.cnf", "pigeonhole.lrup", "3K", 3, 15,
-               form)
-    yield ("bmc.lrup, sanitized", sanitized, "bmc.cnf", "bmc.lrup", "48K", 5, 50, "binary DRAT")
-
-
-EMPTY = "p cnf 2 2\n1 2 0\n0\n"
-FEW = [("no clauses", "p cnf 0 0\n", "", 3, ""),
-       ("no clauses, and a step", "p cnf 1 0\n", "1 0\n", 3, "lrup-exact: line 1: no conflict by "
-        "unit propagation: the clause 1 0 is a RAT step, which lrupd doesn't check\n"),
-       ("an empty clause, and no step", EMPTY, "", 3, ""), ("an empty clause", EMPTY, "0\n", 0, ""),
-       ("the empty clause alone", "p cnf 0 1\n0\n", "0\n", 0, ""),
-       ("four clauses", FOUR, "2 0\n0\n", 0, ""),
-       ("no step", FOUR, "", 3, ""), ("one step", FOUR, "2 0\n", 3, "")]
-
-
-def rows() -> List[Row]:
-    found: List[Row] = [*rows_of_recorded(), *rows_sanitized()]
-    for command, form, words, *rest in SOLVED:
-        for live in (False, True):
-            found.append((f"{command}, {words}" + ", live" * live, solved, command, form,
-                          words, *rest, live))
-    found += [(f"few lines: {name}", few_lines, *rest) for name, *rest in FEW]
-    found += [(f"{parts} tenths, {form}", cut, parts, form) for parts in (4, 8)
-              for form in ("LRAT text", "DRAT text", "binary DRAT")]
-    found += [(f"a wrong step, {form}", wrong, form, 2500)
-              for form in ("LRAT text", "DRAT text", "binary DRAT")]
-    found += [("rows grow", rows_grow), ("after the empty clause", behind), ("no room", no_room),
-              ("room for one clause", room_for_one), ("an import", imported),
-              ("other files", beside_others), ("no folder", no_folder),
-              ("a folder of another run", locked), ("another folder", another_folder),
-              *((f"files that are closed: {closing}", without_errors, closing)
-                for closing in ("2>&-", "<&- 2>&-")),
-              ("a folder that is made", made_where_all_may_write)]
-    found += [(f"a folder of mode {mode:o}", others_write, mode, taken)
-              for mode, taken in ((0o777, False), (0o757, False), (0o1777, True), (0o775, True),
-                                  (0o700, True))]
-    found += [(f"a {how} in place of a FIFO", put_in_place, how) for how in ("link", "file")]
-    found += [(f"{name} is there", in_the_way, name)
-              for name in ("round-1.stream-1", "round-1.stream-2", "round-1.sizes", "round-2.cnf",
-                           "round-7.sizes")]
-    found += [(f"exact {words}", usage, words, cause) for words, cause in USAGE]
-    found += [("status 9", lrupd_ends, "cat $stream > /dev/null; exit 9", 9, 2),
-              ("not opened", lrupd_ends, "exit 6", 6, 1), ("lrupd killed", lrupd_killed)]
-    for by in (signal.SIGTERM, signal.SIGINT, signal.SIGHUP):
-        found += [(f"ended by {by} before it begins", ended_before_it_begins, by),
-                  (f"ended by {by} while lrupd waits", ended_while_lrupd_waits, by)]
-    found += [(f"the filter killed by {by}", filter_killed, by)
-              for by in (signal.SIGKILL, signal.SIGTERM)]
-    return [*found, ("nobody reads", nobody), ("without a pipe", without_a_pipe),
-            ("a signal that is ignored", ignored)]
-
-
-pytestmark = pytest.mark.flaky(reruns=2)    # killing one side is a race
-test_row = parametrized(rows())
+        assert running.poll() is None

@@ -8,10 +8,11 @@ import shutil
 import signal
 import subprocess
 from pathlib import Path
-from typing import List
 
-from harness import (FILTER, LIMIT, PROGRAM, Ran, Row, example, generated, needs, parametrized,
-                     piped, read_line, started, want, with_memory)
+import pytest
+
+from harness import (FILTER, LIMIT, Ran, example, generated, named, needs, piped, read_line,
+                     started)
 
 SIZES = "--lines 4000000 --room 60000000 "
 CADICAL = f"""\
@@ -56,6 +57,7 @@ lrup-exact --rounds live --format binary-drat formula.cnf proof |
 COMMANDS = [("CaDiCaL", CADICAL), ("two of CaDiCaL", CADICAL_TWICE),
             ("CryptoMiniSat", CRYPTOMINISAT), ("two of CryptoMiniSat", CRYPTOMINISAT_TWICE),
             ("PicoSAT", PICOSAT), ("CaDiCaL and CryptoMiniSat", BOTH)]
+FORMULAS = ["random 150 1", "pigeons 7", "order 15", "bmc.cnf"]
 
 
 def wanted_on_path(commands: str) -> None:
@@ -88,57 +90,57 @@ def in_bash(program: str, commands: str, work: Path) -> Ran:
                 os.killpg(running.pid, signal.SIGKILL)
 
 
-def beside(program: str, commands: str, words: str, work: Path) -> None:
+def want_refuted(program: str, commands: str, words: str, work: Path) -> None:
     """Each stream ends, and the formula is refuted."""
     wanted_on_path(commands)
     make_formula(words, work)
     out, said, status = in_bash(program, commands, work)
-    *lines, verdict = out.splitlines() or [""]
-    want((verdict, said, status), ("s UNSATISFIABLE", "", 0), "the verdict")
-    want([line.endswith(", ended") for line in lines], [True] * commands.count("lrup-exact"),
-         "streams that ended")
+    assert (said, status) == ("", 0)
+    *lines, verdict = out.splitlines()
+    assert verdict == "s UNSATISFIABLE"
+    assert len(lines) == commands.count("lrup-exact")
+    assert all(line.endswith(", ended") for line in lines), out
 
 
-def in_rounds(program: str, memory: str, rounds: int, work: Path) -> None:
+@pytest.mark.parametrize("words", FORMULAS)
+@pytest.mark.parametrize("commands", named(COMMANDS))
+def test_beside(program: str, commands: str, words: str, tmp_path: Path) -> None:
+    """With the default sizes."""
+    want_refuted(program, commands.replace(SIZES, ""), words, tmp_path)
+
+
+@pytest.mark.usefixtures("much_memory")
+def test_more_than_the_default_sizes_hold(program: str, tmp_path: Path) -> None:
+    want_refuted(program, CADICAL, "pigeons 9", tmp_path)
+
+
+@pytest.mark.parametrize("memory, least", [("500K", 3), ("512M", 1)])
+def test_rounds(program: str, memory: str, least: int, tmp_path: Path) -> None:
     """The proof is checked in at least that many rounds."""
     wanted_on_path(IN_ROUNDS)
-    make_formula("random 180 3", work)
+    make_formula("random 180 3", tmp_path)
     out, said, status = in_bash(
         program, IN_ROUNDS.replace("exact --rounds live", f"exact --rounds live --memory {memory}"),
-        work)
+        tmp_path)
+    assert (said, status) == ("", 0)
     found = re.fullmatch(
         r"(?:c round (\d+)\n)?c stream 1: \d+ added, \d+ deleted, ended\ns UNSATISFIABLE\n", out)
-    number = int((found and found[1]) or 1)
-    want((bool(found), number >= rounds, said, status), (True, True, "", 0),
-         f"{out}: the report, the rounds, and the status")
-    want(os.listdir(work / "live"), [f"round-{number + 1}.cnf"], "the files left")
+    assert found, out
+    number = int(found[1] or 1)
+    assert number >= least
+    assert os.listdir(tmp_path / "live") == [f"round-{number + 1}.cnf"]
 
 
-def while_it_runs(commands: str, words: str, work: Path) -> None:
-    """The filter's first line comes while the solver runs: the solver writes more than the pipes
-    hold, and nobody reads further lines."""
+@pytest.mark.parametrize("commands", named([("CaDiCaL", CADICAL),
+                                            ("CryptoMiniSat", CRYPTOMINISAT)]))
+def test_the_first_line_comes_while_the_solver_runs(commands: str, tmp_path: Path) -> None:
+    """The solver writes more than the pipes hold, and nobody reads further lines."""
     wanted_on_path(commands)
-    formula, proof = make_formula(words, work), piped(work / "proof")
+    formula, proof = make_formula("random 200 3", tmp_path), piped(tmp_path / "proof")
     solver = commands.splitlines()[0].split(" > ")[0].split()
     form = ["--format", "binary-drat"] * (solver[0] == "cadical")
-    with started(solver, cwd=work, stdout=subprocess.DEVNULL) as running, started(
+    with started(solver, cwd=tmp_path, stdout=subprocess.DEVNULL) as running, started(
             [FILTER, *form, formula, proof], stdout=subprocess.PIPE, bufsize=0) as filtering:
         assert filtering.stdout
-        line = read_line(filtering.stdout)
-        want((line[-3:], running.poll()), (" 0\n", None), "a line, while the solver runs")
-
-
-def solvers(program: str) -> List[Row]:
-    formulas = ("random 150 1", "pigeons 7", "order 15", "bmc.cnf")
-    runs: List[Row] = [(f"{name}, {words}", beside, program, commands.replace(SIZES, ""), words)
-                       for name, commands in COMMANDS for words in formulas]
-    runs += [("CaDiCaL, more than the default sizes hold", with_memory, beside, program,
-              CADICAL, "pigeons 9")]
-    runs += [(f"in rounds with {memory}", in_rounds, program, memory, rounds)
-             for memory, rounds in (("500K", 3), ("512M", 1))]
-    return runs + [("CaDiCaL writes while it runs", while_it_runs, CADICAL, "random 200 3"),
-                   ("CryptoMiniSat writes while it runs", while_it_runs, CRYPTOMINISAT,
-                    "random 200 3")]
-
-
-test_row = parametrized(solvers(PROGRAM))
+        assert read_line(filtering.stdout).endswith(" 0\n")
+        assert running.poll() is None

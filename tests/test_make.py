@@ -1,9 +1,10 @@
 """Targets of make, one after the other, as a person types them.
 
 Each chain runs in a copy of the repository, with the programs that are here: its last target has
-the right status, the proved program stays, and no link is left, since rt refuses links. In most
-chains a script stands for rt. The others need --rt, and the program that `make build` or `make
+the right status, the proved programs stay, and no link is left, since rt refuses links. In most
+tests a script stands for rt. The others need --rt, and the programs that `make build` or `make
 gate` has proved here: then nothing is proved again."""
+import filecmp
 import os
 import re
 import shutil
@@ -12,11 +13,14 @@ import subprocess
 from pathlib import Path
 from typing import Any, Dict, List, Sequence
 
-from harness import (BIN, OUT, PROGRAM, ROOT, RT, Ran, Row, lacking, parametrized, run, started,
-                     text_of, until, want, written)
+import pytest
+
+from harness import BIN, OUT, ROOT, Ran, run, started, text_of, until, written
 
 LIMIT = 600
-PROVED = "crates/lrupd/out/lrupd"
+# Where rt leaves the programs.
+PROVED = {"lrupd": "crates/lrupd/out/lrupd",
+          "lrup-model": "crates/lrup_model_check/out/lrup_model_check"}
 # A rt that proves nothing. `rt ci` removes what was built, as the real one does, and ends as its
 # word in the file `ci` says.
 FALSE_RT = """\
@@ -25,8 +29,11 @@ top=$(cd "$(dirname "$0")" && pwd)
 case "$*" in
     ci) rm -rf "$top"/tree/crates/*/out; sleep "$(cat "$top/seconds")"; cat "$top/ci"
         grep -q ' 0 failed' "$top/ci" || exit 1
-        mkdir -p "$top/tree/crates/lrupd/out" && cp "$top/lrupd" "$top/tree/crates/lrupd/out" ;;
-    run*) mkdir -p out && cp "$top/lrupd" out ;;
+        for crate in lrupd lrup_model_check; do
+            mkdir -p "$top/tree/crates/$crate/out" && cp "$top/$crate" "$top/tree/crates/$crate/out"
+        done ;;
+    run*) crate=$(basename "$PWD") && mkdir -p out && cp "$top/$crate" out && shift 4 &&
+        exec "out/$crate" "$@" ;;
     lib*) mkdir -p out/rlib && touch out/rlib/stamp ;;
     version) echo 'rattle-kit logic' ;;
 esac
@@ -39,34 +46,41 @@ def clean() -> Dict[str, str]:
             if name not in ("MAKEFLAGS", "MAKELEVEL", "MFLAGS", "CI")}
 
 
-def copied(work: Path, is_proved: bool) -> Path:
+def copied(folder: Path, is_proved: bool) -> Path:
     """A copy of the repository's files and of what `make` has built."""
-    tree = work / "tree"
+    tree = folder / "tree"
     listed = run(["git", "ls-files", "-z", "--cached", "--others", "--exclude-standard"], cwd=ROOT)
     names = [name for name in listed.out.split("\0") if (ROOT / name).is_file()]
-    for name in [*names, *[PROVED] * is_proved]:
+    for name in [*names, *list(PROVED.values()) * is_proved]:
         (tree / name).parent.mkdir(parents=True, exist_ok=True)
         shutil.copy2(ROOT / name, tree / name)
     for folder in (BIN, OUT / "objects"):
         shutil.copytree(folder, tree / folder.relative_to(ROOT))
-    if not is_proved:
-        (tree / "out/bin/lrupd.proved").unlink(missing_ok=True)
+    for name in PROVED if not is_proved else ():
+        (tree / f"out/bin/{name}.proved").unlink(missing_ok=True)
     run(["git", "init", "-q", tree])
     return tree
 
 
-def false_rt(work: Path) -> Path:
-    """The script, and what it copies: the program that is tested."""
-    shutil.copy2(PROGRAM, work / "lrupd")
-    written("1 passed, 0 failed\n", work, "ci")
-    written("0", work, "seconds")
-    rt = written(FALSE_RT, work, "rt")
+@pytest.fixture
+def tested(program: str, model: str) -> Dict[str, str]:
+    return {"lrupd": program, "lrup-model": model}
+
+
+@pytest.fixture
+def false_rt(tested: Dict[str, str], tmp_path: Path) -> Path:
+    """A script for rt, and what it copies: the programs that are tested."""
+    for name, path in tested.items():
+        shutil.copy2(path, tmp_path / Path(PROVED[name]).name)
+    written("1 passed, 0 failed\n", tmp_path, "ci")
+    written("0", tmp_path, "seconds")
+    rt = written(FALSE_RT, tmp_path, "rt")
     rt.chmod(0o755)
     return rt
 
 
 def make(tree: Path, rt: object, target: str) -> List[str]:
-    words = {"install": [f"PREFIX={tree.parent}/prefix"], "deb": [],
+    words = {"install": [f"PREFIX={tree.parent}/prefix"],
              "test": ["TESTS=program_groups"], "gate": ["TESTS=program_groups"]}
     return ["make", f"RT={rt}", *target.split(), *words.get(target, [])]
 
@@ -75,71 +89,69 @@ def in_tree(tree: Path, rt: object, target: str) -> Ran:
     return run(make(tree, rt, target), limit=LIMIT, cwd=tree, env=clean())
 
 
-def whole(tree: Path) -> None:
-    """The proved program is there, and no link."""
-    for name in (PROVED, "out/bin/lrupd"):
-        want((tree / name).read_bytes() == Path(PROGRAM).read_bytes(), True,
-             f"whether {name} is the program")
-    links = [str(path.relative_to(tree)) for path in tree.rglob("*") if path.is_symlink()]
-    want(links, [], "links")
+def want_whole(tree: Path, tested: Dict[str, str]) -> None:
+    """The proved programs are there, and no link."""
+    for name, path in tested.items():
+        for place in (PROVED[name], f"out/bin/{name}"):
+            assert filecmp.cmp(tree / place, path, shallow=False)
+    assert [path for path in tree.rglob("*") if path.is_symlink()] == []
 
 
 def last_line(done: Ran) -> str:
     return (done.out.splitlines() or [""])[-1]
 
 
-def chain(targets: Sequence[str], is_proved: bool, work: Path) -> None:
+def want_made(tree: Path, rt: object, targets: Sequence[str]) -> None:
     """Each target ends well."""
-    if is_proved and not RT:
-        lacking("no --rt")
-    tree, rt = copied(work, is_proved), RT if is_proved else false_rt(work)
     for target in targets:
         done = in_tree(tree, rt, target)
-        want(done.status, 0, f"the status of make {target}, which says\n{done.out}{done.err}")
+        assert done.status == 0, f"make {target}:\n{done.out}{done.err}"
         if target in ("test", "gate"):
-            want(re.fullmatch(r"\d+ passed, 0 failed", last_line(done)) is not None, True,
-                 f"whether {last_line(done)} is the last line")
-    whole(tree)
+            assert re.fullmatch(r"\d+ passed, 0 failed", last_line(done))
 
 
-def failed_gate(work: Path) -> None:
-    """After a gate that failed, the program is there, and can be installed without rt."""
-    tree, rt = copied(work, False), false_rt(work)
-    want(in_tree(tree, rt, "build").status, 0, "the status of make build")
-    written("0 passed, 1 failed\n", work, "ci")
-    done = in_tree(tree, rt, "gate")
-    want((done.status, last_line(done)), (2, "1 passed, 1 failed"), done.out)
-    want(in_tree(tree, "none", "install").status, 0, "the status of make install")
-    whole(tree)
+@pytest.mark.parametrize("targets", ["install, test", "test, test", "solve, build", "deb, install"])
+def test_targets(tested: Dict[str, str], rt: str, targets: str, tmp_path: Path) -> None:
+    tree = copied(tmp_path, is_proved=True)
+    want_made(tree, rt, targets.split(", "))
+    want_whole(tree, tested)
 
 
-def interrupted(target: str, number: int, work: Path) -> None:
-    """A target that is interrupted while rt works can be made again."""
-    tree, rt = copied(work, False), false_rt(work)
-    want(in_tree(tree, rt, "build").status, 0, "the status of make build")
-    written("100", work, "seconds")
+@pytest.mark.parametrize("targets", [
+    "build, gate, install, gate, test", "build, built, exact, trim, explain, solver, uninstall"])
+def test_targets_with_a_script_for_rt(tested: Dict[str, str], false_rt: Path, targets: str,
+                                      tmp_path: Path) -> None:
+    tree = copied(tmp_path, is_proved=False)
+    want_made(tree, false_rt, targets.split(", "))
+    want_whole(tree, tested)
+
+
+def test_a_gate_that_fails(tested: Dict[str, str], false_rt: Path, tmp_path: Path) -> None:
+    """The programs are there afterwards, and can be installed without rt."""
+    tree = copied(tmp_path, is_proved=False)
+    want_made(tree, false_rt, ["build"])
+    written("0 passed, 1 failed\n", tmp_path, "ci")
+    done = in_tree(tree, false_rt, "gate")
+    assert (last_line(done), done.status) == ("1 passed, 1 failed", 2)
+    want_made(tree, "none", ["install"])
+    want_whole(tree, tested)
+
+
+@pytest.mark.parametrize("number", [signal.SIGINT, signal.SIGTERM], ids=["SIGINT", "SIGTERM"])
+def test_an_interrupted_gate(tested: Dict[str, str], false_rt: Path, number: int,
+                             tmp_path: Path) -> None:
+    """A gate that is interrupted while rt works can be run again."""
+    tree = copied(tmp_path, is_proved=False)
+    want_made(tree, false_rt, ["build"])
+    written("100", tmp_path, "seconds")
     how: Dict[str, Any] = {"stdout": subprocess.PIPE, "stderr": subprocess.STDOUT, "cwd": tree,
                            "env": clean(), "start_new_session": True}
-    with started(make(tree, rt, target), **how) as running:
-        until("rt ci removes the program", lambda: not (tree / PROVED).exists(), LIMIT)
+    with started(make(tree, false_rt, "gate"), **how) as running:
+        until("rt ci removes the programs",
+              lambda: not any((tree / name).exists() for name in PROVED.values()), LIMIT)
         os.killpg(running.pid, number)
         text = text_of(running.communicate(timeout=LIMIT)[0])
-        want(running.returncode != 0, True, f"whether the status isn't 0, after\n{text}")
-    whole(tree)
-    written("0", work, "seconds")
-    done = in_tree(tree, rt, target)
-    want(done.status, 0, f"the status of make {target}, which says\n{done.out}{done.err}")
-
-
-def rows() -> List[Row]:
-    chains = ["install, test", "test, test", "solve, build", "deb, install"]
-    found: List[Row] = [(words, chain, words.split(", "), True) for words in chains]
-    for words in ("gate, install, gate, test", "built, exact, trim, explain, solver, uninstall"):
-        found.append((f"{words}, by a script for rt", chain, ["build", *words.split(", ")], False))
-    found += [("a gate that fails", failed_gate)]
-    found += [(f"an interrupted gate, {number.name}", interrupted, "gate", number)
-              for number in (signal.SIGINT, signal.SIGTERM)]
-    return found
-
-
-test_row = parametrized(rows())
+        assert running.returncode != 0, text
+    want_whole(tree, tested)
+    written("0", tmp_path, "seconds")
+    want_made(tree, false_rt, ["gate"])

@@ -1,139 +1,193 @@
-"""Formulas, proofs and streams in xz, gzip and zstd: the tools read them as if they weren't
+"""Formulas, proofs and streams in xz, gzip, bzip2 and zstd: the tools read them as if they weren't
 compressed, if the file's name has the program's ending. The outputs have to be those for the plain
 files. A file that can't be unpacked is named; nothing else is said but what the program says."""
 import re
 import shutil
+import signal
 from pathlib import Path
-from typing import List
+from typing import Callable, Dict, List
 
-from harness import (EXPLAIN, FILTER, PROGRAM, TRIM, Ran, Row, example, needs, parametrized, run,
-                     want, written)
-from solving import LRUP_SOLVE, SOLVE
+import pytest
 
-PACKERS = {"xz": ["xz", "-k"], "gz": ["gzip", "-k"], "zst": ["zstd", "-q"]}
+from harness import EXPLAIN, FILTER, TRIM, Ran, example, needs, run, written
+from solving import SOLVE, check_again
+
+pytestmark = pytest.mark.usefixtures("lrup_solve")
+PACKERS = {"xz": ["xz", "-k"], "gz": ["gzip", "-k"], "bz2": ["bzip2", "-k"], "zst": ["zstd", "-q"]}
 CHECK = SOLVE.with_name("lrup-check")
+NAME: Callable[[Path], str] = lambda path: path.name
+
+
+@pytest.fixture(params=PACKERS)
+def ending(request: pytest.FixtureRequest) -> str:
+    """Of the names of compressed files."""
+    return str(request.param)
 
 
 def packed(path: Path, ending: str) -> Path:
     """The packed file; the plain one gets another name, so that nothing can read it instead."""
     needs(PACKERS[ending][0])
-    want(run([*PACKERS[ending], path]).status, 0, f"the status of {PACKERS[ending][0]}")
+    done = run([*PACKERS[ending], path])
+    assert done.status == 0, done.err
     path.rename(path.with_name(f"{path.name}-plain"))
     return path.with_name(f"{path.name}.{ending}")
 
 
-def copied(work: Path) -> List[Path]:
+def copied(folder: Path) -> List[Path]:
     """A formula, and a stream that is also an LRAT proof."""
-    return [Path(shutil.copy(example(name), work)) for name in ("bmc.cnf", "bmc.lrup")]
+    return [Path(shutil.copy(example(name), folder)) for name in ("bmc.cnf", "bmc.lrup")]
 
 
-def filtered(ending: str, work: Path) -> None:
-    formula, proof = copied(work)
-    # without hints, so that the filter has something to find
+def test_lrup_exact(ending: str, tmp_path: Path) -> None:
+    formula, proof = copied(tmp_path)
+    # Without hints, so that the filter has something to find.
     steps = re.findall(r"^\d+ ((?:-?[1-9]\d* )*0) .*", proof.read_text(), re.M)
     proof.write_text("".join(f"{step}\n" for step in steps))
     plain = run([FILTER, formula, proof])
-    want((plain.err, plain.status), ("", 0), "what lrup-exact says")
-    found = run([FILTER, packed(formula, ending), packed(proof, ending)])
-    want(found, plain, "lrup-exact's answer")
+    assert (plain.err, plain.status) == ("", 0)
+    assert run([FILTER, packed(formula, ending), packed(proof, ending)]) == plain
 
 
-def of_another(ending: str, work: Path) -> None:
+def test_another_stream_of_lrup_exact(ending: str, tmp_path: Path) -> None:
     """--other reads a packed stream."""
-    streams = [Path(shutil.copy(example(f"pigeonhole-two.{number}"), work)) for number in (1, 2)]
+    streams = [Path(shutil.copy(example(f"pigeonhole-two.{number}"), tmp_path))
+               for number in (1, 2)]
     words = [FILTER, "--stream", 1, "--streams", 2, "--other"]
     rest = [example("pigeonhole.cnf"), streams[0]]
     plain = run([*words, f"2={streams[1]}", *rest])
-    want((plain.err, plain.status), ("", 0), "what lrup-exact says")
-    want(run([*words, f"2={packed(streams[1], ending)}", *rest]), plain, "lrup-exact's answer")
+    assert (plain.err, plain.status) == ("", 0)
+    assert run([*words, f"2={packed(streams[1], ending)}", *rest]) == plain
 
 
-def explained(ending: str, work: Path) -> None:
-    formula, stream = copied(work)
+def test_lrup_explain(ending: str, tmp_path: Path) -> None:
+    formula, stream = copied(tmp_path)
     stream.write_text(stream.read_text().replace(" 533 ", " ", 1))
     plain = run([EXPLAIN, formula, stream])
     found = run([EXPLAIN, packed(formula, ending), packed(stream, ending)])
-    want(Ran(found.out.replace(f"{stream}.{ending}", str(stream)), *found[1:]), plain,
-         "lrup-explain's answer")
+    assert found._replace(out=found.out.replace(f"{stream}.{ending}", str(stream))) == plain
 
 
-def trimmed(ending: str, work: Path) -> None:
+def test_lrup_trim(program: str, ending: str, tmp_path: Path) -> None:
     """The command that lrup-trim prints for its LRAT text unpacks the formula."""
-    formula, stream = copied(work)
+    formula, stream = copied(tmp_path)
     words = [TRIM, "--core", "core", "--lrat", "lrat"]
-    want(run([*words, formula, stream], cwd=work).status, 0, "the status for plain files")
-    plain = [(work / name).read_text() for name in ("core", "lrat")]
-    for name in ("core", "lrat"):
-        (work / name).unlink()
-    done = run([*words, packed(formula, ending), packed(stream, ending)], cwd=work)
-    want((done.err, done.status), ("", 0), "what lrup-trim says")
-    want([(work / name).read_text() for name in ("core", "lrat")], plain, "the core and LRAT text")
+    core, lrat = tmp_path / "core", tmp_path / "lrat"
+    assert run([*words, formula, stream], cwd=tmp_path).status == 0
+    plain = core.read_text(), lrat.read_text()
+    core.unlink()
+    lrat.unlink()
+    done = run([*words, packed(formula, ending), packed(stream, ending)], cwd=tmp_path)
+    assert (done.err, done.status) == ("", 0)
+    assert (core.read_text(), lrat.read_text()) == plain
     command = done.out.splitlines()[-1].split(": ")[-1]
-    checked = run(["bash", "-c", command.replace("lrupd", PROGRAM, 1)], cwd=work)
-    want((checked.out.splitlines()[-1], checked.status), ("s UNSATISFIABLE", 0), command)
+    checked = run(["bash", "-c", command.replace("lrupd", program, 1)], cwd=tmp_path)
+    assert (checked.err, checked.status) == ("", 0)
+    assert checked.out.splitlines()[-1] == "s UNSATISFIABLE"
 
 
-def recorded(ending: str, work: Path) -> None:
+def test_a_records_formula(program: str, ending: str, tmp_path: Path) -> None:
     """A record's digest is that of the plain formula. Another formula is refused."""
-    formula = copied(work)[0]
-    want(run([SOLVE, "--lrupd", PROGRAM, "-q", "--proofs", work / "kept", formula]).status, 20,
-         "lrup-solve's status")
-    other = written(formula.read_text().replace("-", "", 1), work, "other.cnf")
+    formula = copied(tmp_path)[0]
+    done = run([SOLVE, "--lrupd", program, "-q", "--proofs", tmp_path / "kept", formula])
+    assert done.status == 20
+    other = written(formula.read_text().replace("-", "", 1), tmp_path, "other.cnf")
     small, large = packed(formula, ending), packed(other, ending)
-    for tool in (EXPLAIN, [TRIM, "--core", work / "core"]):
-        words = tool if isinstance(tool, list) else [tool]
-        want(run([*words, small, work / "kept"]).status, 0, f"the status of {words[0]}")
-        (work / "core").unlink(missing_ok=True)
-        done = run([*words, large, work / "kept"])
-        assert "was changed since" in done.err and done.status != 0, done
+    commands: List[List[object]] = [[EXPLAIN], [TRIM, "--core", tmp_path / "core"]]
+    for words in commands:
+        assert run([*words, small, tmp_path / "kept"]).status == 0
+        (tmp_path / "core").unlink(missing_ok=True)
+        done = run([*words, large, tmp_path / "kept"])
+        assert "was changed since" in done.err
+        assert done.status == 1
 
 
-def checked(ending: str, work: Path) -> None:
-    formula, proof = copied(work)
-    done = run([CHECK, "--lrupd", PROGRAM, "-q", formula, packed(proof, ending)])
-    want(done, Ran("s UNSATISFIABLE\n", "", 0), "lrup-check's answer")
+def test_lrup_check(program: str, ending: str, tmp_path: Path) -> None:
+    formula, proof = copied(tmp_path)
+    done = run([CHECK, "--lrupd", program, "-q", formula, packed(proof, ending)])
+    assert done == Ran("s UNSATISFIABLE\n", "", 0)
 
 
-def truncated(ending: str, work: Path) -> None:
-    """Half a formula, proof or stream: the status is 1, and the last line names the file."""
-    formula, stream = copied(work)
-    program = PACKERS[ending][0]
-    cut = [packed(Path(shutil.copy(path, work / f"cut-{path.name}")), ending)
-           for path in (formula, stream)]
-    for path in cut:
-        path.write_bytes(path.read_bytes()[:path.stat().st_size // 2])
-    for words, name in (([FILTER, cut[0], stream], cut[0]), ([FILTER, formula, cut[1]], cut[1]),
-                        ([TRIM, "--core", work / "core", cut[0], stream], cut[0]),
-                        ([EXPLAIN, cut[0], stream], cut[0])):
-        done = run(words)
-        want((done.err.splitlines()[-1], done.status),
-             (f"{words[0].name}: {name}: {program} can't unpack it", 1), f"the end of {words}")
-    done = run([CHECK, "--lrupd", PROGRAM, formula, cut[1]])
-    assert f"{cut[1]}: it can't be read: {program} can't unpack it\n" in done.out, done
-    assert "UNSAT" not in done.out and done.status in (1, 3), done
+def test_lrup_solve(program: str, ending: str, tmp_path: Path) -> None:
+    """lrup-solve and lrup-check unpack formulas and assumptions, even if they inherit that ended
+    children are ignored. A record keeps the plain formula, and a run that resumes it accepts the
+    packed one."""
+    formula, proof = copied(tmp_path)
+    small, cube = packed(formula, ending), packed(written("1 0\n", tmp_path, "cube"), ending)
+    plain = formula.with_name("bmc.cnf-plain")
+    other = packed(written(plain.read_text().replace("-", "", 1), tmp_path, "other.cnf"), ending)
+    words = [SOLVE, "--lrupd", program, "-q"]
+    done = run([*words, "--assume", cube, small],
+               preexec_fn=lambda: signal.signal(signal.SIGCHLD, signal.SIG_IGN))
+    assert (done.err, done.status) == ("", 20)
+    assert run([CHECK, "--lrupd", program, "-q", small, proof]) == Ran("s UNSATISFIABLE\n", "", 0)
+    kept = tmp_path / "kept"
+    assert run([*words, "--proofs", kept, small]) == Ran("s UNSATISFIABLE\n", "", 20)
+    assert (kept / "formula.cnf").read_bytes() == plain.read_bytes()
+    check_again(kept)
+    (kept / "command").unlink()
+    done = run([*words, "--resume", kept, other])
+    assert "isn't the formula of" in done.err
+    assert done.status == 1
+    assert run([*words, "--resume", kept, small]) == Ran("s UNSATISFIABLE\n", "", 20)
+    check_again(kept)
 
 
-def not_compressed(ending: str, work: Path) -> None:
-    formula, stream = copied(work)
+# Files that can't be unpacked.
+
+
+def halved(path: Path, ending: str) -> Path:
+    """The first half of the packed file."""
+    found = packed(Path(shutil.copy(path, path.with_name(f"cut-{path.name}"))), ending)
+    found.write_bytes(found.read_bytes()[:found.stat().st_size // 2])
+    return found
+
+
+@pytest.mark.parametrize("tool", [FILTER, TRIM, EXPLAIN, SOLVE, CHECK], ids=NAME)
+def test_half_a_formula(program: str, tool: Path, ending: str, tmp_path: Path) -> None:
+    """The last line names the file."""
+    formula, stream = copied(tmp_path)
+    cut = halved(formula, ending)
+    options: Dict[Path, List[object]] = {TRIM: ["--core", tmp_path / "core"],
+                                         SOLVE: ["--lrupd", program], CHECK: ["--lrupd", program]}
+    done = run([tool, *options.get(tool, []), cut, *[stream] * (tool != SOLVE)])
+    said = f"{tool.name}: {cut}: {PACKERS[ending][0]} can't unpack it"
+    assert (done.err.splitlines()[-1], done.status) == (said, 1)
+
+
+def test_half_a_proof_of_lrup_exact(ending: str, tmp_path: Path) -> None:
+    formula, stream = copied(tmp_path)
+    cut = halved(stream, ending)
+    done = run([FILTER, formula, cut])
+    said = f"lrup-exact: {cut}: {PACKERS[ending][0]} can't unpack it"
+    assert (done.err.splitlines()[-1], done.status) == (said, 1)
+
+
+def test_half_a_proof_of_lrup_check(program: str, ending: str, tmp_path: Path) -> None:
+    """The proof can't be read, so the formula isn't refuted."""
+    formula, stream = copied(tmp_path)
+    cut = halved(stream, ending)
+    done = run([CHECK, "--lrupd", program, formula, cut])
+    assert f"{cut}: it can't be read: {PACKERS[ending][0]} can't unpack it\n" in done.out
+    assert "UNSAT" not in done.out
+    assert done.status in (1, 3)
+
+
+@pytest.mark.parametrize("tool", [FILTER, CHECK], ids=NAME)
+def test_not_compressed(program: str, tool: Path, ending: str, tmp_path: Path) -> None:
+    formula, stream = copied(tmp_path)
     wrong = formula.rename(f"{formula}.{ending}")
-    done = run([FILTER, wrong, stream])
-    want((done.out, done.err.splitlines()[-1], done.status),
-         ("", f"lrup-exact: {wrong}: {PACKERS[ending][0]} can't unpack it", 1), "the answer")
+    done = run([tool, *["--lrupd", program] * (tool == CHECK), wrong, stream])
+    said = f"{tool.name}: {wrong}: {PACKERS[ending][0]} can't unpack it"
+    assert (done.out, done.status) == ("", 1)
+    assert done.err.splitlines()[-1] == said
 
 
-def without_program(ending: str, work: Path) -> None:
-    formula, stream = copied(work)
+@pytest.mark.parametrize("tool", [FILTER, CHECK], ids=NAME)
+def test_without_the_unpacking_program(program: str, tool: Path, ending: str,
+                                       tmp_path: Path) -> None:
+    formula, stream = copied(tmp_path)
     small = packed(formula, ending)
-    done = run([FILTER, small, stream], env={"PATH": str(work)})
-    want(done, Ran("", f"lrup-exact: {small}: no {PACKERS[ending][0]} on the PATH\n", 1),
-         "the answer")
-
-
-def rows() -> List[Row]:
-    return [(f"{function.__name__}, {ending}", function, ending) for ending in PACKERS
-            for function in (filtered, of_another, explained, trimmed, recorded, checked,
-                             truncated, not_compressed, without_program)]
-
-
-pytestmark = LRUP_SOLVE
-test_row = parametrized(rows())
+    done = run([tool, *["--lrupd", program] * (tool == CHECK), small, stream],
+               env={"PATH": str(tmp_path)})
+    said = f"{tool.name}: {small}: no {PACKERS[ending][0]} on the PATH\n"
+    assert done == Ran("", said, 1)

@@ -1,5 +1,7 @@
-"""Runs the program on the rows below, and compares standard output, standard error and the
-status."""
+"""lrupd's answers: what a run writes to standard output and standard error, and its status.
+
+Runs of one stream and of several, over files and pipes; refused arguments, files and assumptions;
+--watch; large inputs, little memory, and outputs that can't be written."""
 import re
 import socket
 import subprocess
@@ -7,8 +9,10 @@ import sys
 from pathlib import Path
 from typing import Any, Dict, Iterator, List, Tuple
 
-from harness import (FOUR, PROGRAM, ROOT, SMALL_ROW, Pieces, Row, Wanted, Words, answered, answers,
-                     example, parametrized, report, small, started, want, with_memory, written)
+import pytest
+
+from harness import (FOUR, ROOT, SMALL_ROW, Pieces, Wanted, answered, answers, each_of,
+                     example, report, small, started, written)
 
 sys.path.append(str(ROOT / "gate"))
 import interface
@@ -20,17 +24,11 @@ FILES = {"formula": FOUR, "one": ONE, "two": TWO}
 FOUR_SOLVERS = [f"bmc-four.{number}" for number in range(1, 5)]
 ASSUMED = [example("assumed.cnf"), example("assumed.lrup")]
 CUBE = example("assumed.cube")
-# Watched runs, and how many lines --watch prints: one at the end of each stream in each round, and
-# one at the start of each round but the first.
-TOLD = [(["--watch", *options, "formula", *["one"] * count], count)
-        for options in ([], ["--serial"]) for count in (1, 5)]
-TOLD += [(["--watch", *options, "--rounds", "d", "formula", "d/round-1.stream-1"], 3)
-         for options in ([], ["--serial"])]
 ADDED = "1 added, 0 deleted, ended"
 BOTH_ADDED = "2 added, 0 deleted, ended"
 
 
-# Kinds of rows.
+# Kinds of runs.
 
 
 def recorded(name: str, options: str, *files: str) -> Named:
@@ -50,20 +48,10 @@ def streams(name: str, options: str, status: int, *said_and_text: Any,
                         report(said, status), files=files)
 
 
-def bad(fault: str, text: str, options: str = "") -> Named:
-    """One stream, whose first line has this fault."""
-    return streams(fault, options, 3, f"0 added, 0 deleted, bad line 1 ({fault})", text)
-
-
 def refused(cause: str, status: int, *words: object, shell: str = 'exec "$@"') -> Named:
     """No report, but this cause."""
     files = {**FILES, "refused": "p cnf 1\n"}
     return cause, Wanted(words, status, err=f"lrupd: {cause}\n", files=files, shell=shell)
-
-
-def refused_formula(fault: str, text: str) -> Named:
-    return fault, Wanted(["refused", "one"], 4, err=f"lrupd: formula refused: {fault}\n",
-                         files={"refused": text, "one": ONE})
 
 
 def assumed(name: str, status: int, text: str, options: str) -> Named:
@@ -77,7 +65,7 @@ def refused_cube(fault: str, text: str) -> Named:
                          err=f"lrupd: assumptions refused: {fault}\n", files={"cube": text})
 
 
-# The rows.
+# Tables of runs.
 
 
 def examples() -> Iterator[Named]:
@@ -90,53 +78,26 @@ def examples() -> Iterator[Named]:
         yield recorded("bmc-four", options, "bmc.cnf", *FOUR_SOLVERS)
 
 
+@each_of(examples())
+def test_examples(program: str, wanted: Wanted, tmp_path: Path) -> None:
+    answers(program, wanted, tmp_path)
+
+
 def one_stream() -> Iterator[Named]:
-    """Streams over the four clauses of two literals: each assignment makes one of these clauses
-    false."""
     yield streams("two additions", "", 0, BOTH_ADDED, TWO)
-    yield streams("a repeated literal", "--room 1", 3, ADDED, "5 2 2 0 1 2 0\n")
     yield streams("a bad line after the empty clause", "", 0,
                   "2 added, 0 deleted, bad line 3 (no conflict)", TWO + "7 2 0 1 0\n")
-    yield streams("an identity below the last one", "", 3,
-                  "1 added, 0 deleted, bad line 2 (identity)", "7 2 0 1 2 0\n6 0 7 3 4 0\n")
     yield streams("no identities left", "--lines 1", 3,
                   "1 added, 0 deleted, bad line 2 (identity)", TWO)
-    yield streams("a clause deleted", "", 3, "1 added, 1 deleted, bad line 3 (retired 5)",
-                  ONE + "5 d 5 0\n6 0 5 3 4 0\n")
-    yield streams("a clause deleted twice", "", 3, "1 added, 1 deleted, bad line 2 (not live 5)",
-                  ONE + "5 d 5 5 0\n")
-    yield streams("a clause of the formula deleted", "", 3,
-                  "0 added, 1 deleted, bad line 2 (dropped 1)", "5 d 1 0\n" + ONE)
-    yield streams("one deleted twice", "", 3,
-                  "0 added, 1 deleted, bad line 1 (not live 1)", "5 d 1 1 0\n")
+    yield streams("no room", "--room 0", 3, "0 added, 0 deleted, bad line 1 (no room)", ONE)
     yield streams("imports of the formula", "", 0, BOTH_ADDED, f"1 i 2 1 1 0\n{TWO}2 i -1 2 0\n")
-    yield streams("an import of a clause that was dropped", "", 3,
-                  "0 added, 1 deleted, bad line 2 (dropped 1)", "5 d 1 0\n1 i 1 2 0\n")
-    yield streams("an empty clause in the formula", "", 0, ADDED, "2 0 1 0\n",
-                  formula="p cnf 0 1\n0\n")
-    yield streams("nothing", "", 3, "0 added, 0 deleted, ended", "", formula="p cnf 0 0\n")
 
 
-def faults() -> Iterator[Named]:
-    yield bad("not unit 3", "5 2 0 2 3 0\n")
-    yield bad("not unit 1", "5 0 1 0\n", "--room 0")
-    yield bad("excess 3", "5 2 0 1 2 3 0\n")
-    yield bad("no conflict", "5 2 0 1 0\n")
-    yield bad("no conflict", "5 2 0 0\n")
-    yield bad("missing 5", "5 2 0 5 0\n")
-    yield bad("rat hint", "5 1 0 -2 0\n")
-    yield bad("tautology", "5 1 -1 0 1 0\n")
-    yield bad("literal", "5 3 -3 0 1 0\n")
-    yield bad("no room", ONE, "--room 0")
-    yield bad("spelling", "5  2 0 1 2 0\n")
-    yield bad("truncated", "5 2 0 1 2 0")
-    yield bad("too long", "1000000000000000000 2 0 1 2 0\n")
-    yield bad("identity", "999999999999999999 2 0 1 2 0\n")
-    yield bad("differs 1", "1 i 1 0\n")
-    yield bad("differs 1", "1 i 1 2 -2 0\n")
-    yield bad("identity", "5 i 2 0\n")
-    yield bad("literal", "1 i 1 2 3 0\n")
-    yield bad("spelling", "1 i 1 2 0 0\n")
+@each_of(one_stream())
+def test_one_stream(program: str, wanted: Wanted, tmp_path: Path) -> None:
+    """Streams over the four clauses of two literals: each assignment makes one of these clauses
+    false."""
+    answers(program, wanted, tmp_path)
 
 
 def several_streams() -> Iterator[Named]:
@@ -168,9 +129,12 @@ def several_streams() -> Iterator[Named]:
     yield streams("64 streams", "--lines 1 --room 1", 3, *(word for pair in many for word in pair))
 
 
+@each_of(several_streams())
+def test_several_streams(program: str, wanted: Wanted, tmp_path: Path) -> None:
+    answers(program, wanted, tmp_path)
+
+
 def pipes() -> Iterator[Named]:
-    """Pipes that are opened in the order of the arguments, and written while they are checked; also
-    a file named twice, and a folder."""
     both: Dict[str, Pieces] = {"pipe1": [b"5 2 0 1 2 0\n7", 0.2, b" 0 5 6 0\n"],
                                "pipe2": [b"6 -2 0 3", 0.1, b" 4 0\n"]}
     yield "two pipes", Wanted([*SMALL_ROW, "--tries", "1000000", "formula", "pipe1", "pipe2"], 0,
@@ -186,8 +150,14 @@ def pipes() -> Iterator[Named]:
     yield "a folder as the stream", Wanted(["formula", "."], 3, unread, files=FILES)
 
 
+@each_of(pipes())
+def test_pipes(program: str, wanted: Wanted, tmp_path: Path) -> None:
+    """Pipes that are opened in the order of the arguments, and written while they are checked; also
+    a file named twice, and a folder."""
+    answers(program, wanted, tmp_path)
+
+
 def paths() -> Iterator[Named]:
-    """A path is taken literally: a hyphen isn't standard input, and spaces are kept."""
     absent = [("a formula at a hyphen that is not there", "lrupd: cannot read formula\n",
                ["-", "one"]),
               ("a stream at a hyphen that is not there", "lrupd: cannot open stream 1\n",
@@ -205,23 +175,13 @@ def paths() -> Iterator[Named]:
                                                  files=spaced, given=TWO)
 
 
-def refused_formulas() -> Iterator[Named]:
-    yield refused_formula("no header", "")
-    yield refused_formula("no header", "c p cnf 1 1\n1 0\n")
-    yield refused_formula("bad header", "p cnf 1\n")
-    yield refused_formula("bad header", "p cnf 01 0\n")
-    yield refused_formula("bad number in line 2", "p cnf 1 1\n+1 0\n")
-    yield refused_formula("bad number in line 3", "p cnf 1 1\n1 0\n%\n")
-    yield refused_formula("variable out of range in line 2", "p cnf 1 1\n2 0\n")
-    yield refused_formula("open clause", "p cnf 1 1\n1")
-    yield refused_formula("too few clauses", "p cnf 1 2\n1 0\n")
-    yield refused_formula("too many clauses in line 2", "p cnf 1 0\n0\n")
-    yield refused_formula("limit", "p cnf 16777216 0\n")
-    yield refused_formula("limit", "p cnf 0 16777216\n")
+@each_of(paths())
+def test_paths(program: str, wanted: Wanted, tmp_path: Path) -> None:
+    """A path is taken literally: a hyphen isn't standard input, and spaces are kept."""
+    answers(program, wanted, tmp_path)
 
 
 def refused_files() -> Iterator[Named]:
-    """The order in which arguments, formula and streams are checked."""
     yield refused("cannot read formula", 5, "absent", "one")
     yield refused("cannot read formula", 5, "absent", "absent")
     yield refused("cannot read formula", 5, ".", "one")
@@ -235,34 +195,21 @@ def refused_files() -> Iterator[Named]:
         yield refused("stream count", 2, "formula", *["one"] * count)
 
 
-def version() -> Iterator[Named]:
-    yield "version", Wanted(["--version"], 2,
-                            err=f"lrupd {(ROOT / 'VERSION').read_text().strip()}\n")
+@each_of(refused_files())
+def test_refused_files(program: str, wanted: Wanted, tmp_path: Path) -> None:
+    """The order in which arguments, formula and streams are checked."""
+    answers(program, wanted, tmp_path)
 
 
-USAGE: List[Tuple[str, List[str]]] = [
-    ("no words", []),
-    ("no stream", ["formula"]),
-    ("help", ["--help"]),
-    ("too many tries", ["--tries", "1000001", "absent", "absent"]),
-    ("too many lines", ["--lines", "268435457", "absent", "absent"]),
-    ("no number", ["--room", "x", "absent", "absent"]),
-    ("no such option", ["--fast", "absent", "absent"]),
-    ("a word that is no UTF-8", ["\udcff", "absent"]),
-    ("assumptions twice", ["--assume", "cube", "--assume", "cube", "formula", "one"]),
-    ("watched twice", ["--watch", "--watch", "formula", "one"]),
-    ("rounds twice", ["--rounds", ".", "--rounds", ".", "formula", "one"]),
-    ("rounds without a stream", ["--rounds", ".", "formula"]),
-]
+def test_version(program: str, tmp_path: Path) -> None:
+    said = f"lrupd {(ROOT / 'VERSION').read_text().strip()}\n"
+    answers(program, Wanted(["--version"], 2, err=said), tmp_path)
 
 
 def assumptions() -> Iterator[Named]:
     for options in WAYS:
         yield assumed("a clause within the cube", 8, "-2 0\n", options)
-        yield assumed("a cube with a literal twice", 8, "-2 1 -2 0\n", options)
         yield assumed("the clause itself assumed", 3, "2 0\n", options)
-        yield assumed("nothing assumed", 3, "0\n", options)
-        yield assumed("another literal and its complement", 3, "1 -1 0\n", options)
         wide = {"cube": "".join(f"-{number} " for number in range(1, 65536)) + "0\n",
                 "wide": "p cnf 65535 2\n1 2 0\n-1 2 0\n"}
         yield (f"65,535 assumed literals {options}",
@@ -276,21 +223,25 @@ def assumptions() -> Iterator[Named]:
                                           pipes={"pipe": [b"-2", 0.1, b" 0\n"]})
 
 
+@each_of(assumptions())
+def test_assumptions(program: str, wanted: Wanted, tmp_path: Path) -> None:
+    answers(program, wanted, tmp_path)
+
+
 def refused_assumptions() -> Iterator[Named]:
     yield refused_cube("variable out of range", "3 0\n")
-    yield refused_cube("variable out of range", "999999999999999999 0\n")
-    yield refused_cube("too long", "1000000000000000000 0\n")
-    for text in "-2 0", "+2 0\n", "", "-2 0\n1 0\n", "-2 0\r\n", "-2  0\n":
-        yield refused_cube("spelling", text)
     yield refused("cannot read assumptions", 5, "--assume", "absent", "formula", "absent")
     yield refused("cannot read assumptions", 5, "--assume", ".", "formula", "one")
     yield refused("formula refused: bad header", 4, "--assume", "absent", "refused", "one")
     yield refused("cannot open stream 1", 5, "--assume", CUBE, "formula", "absent")
 
 
+@each_of(refused_assumptions())
+def test_refused_assumptions(program: str, wanted: Wanted, tmp_path: Path) -> None:
+    answers(program, wanted, tmp_path)
+
+
 def watched() -> Iterator[Named]:
-    """With --watch, standard error has lines during the run; standard output and the status are the
-    same."""
     said = ["0 added, 0 deleted, bad line 1 (spelling)", "0 added, 0 deleted, ended"]
     lines = "".join(f"lrupd: stream {number}: {words}\n" for number, words in enumerate(said, 1))
     words = [*SMALL_ROW, "--watch", "--serial", "formula", "stream", "/dev/null"]
@@ -305,9 +256,14 @@ def watched() -> Iterator[Named]:
     yield refused("cannot open stream 2", 5, "--watch", "formula", "one", "absent")
 
 
+@each_of(watched())
+def test_watched(program: str, wanted: Wanted, tmp_path: Path) -> None:
+    """With --watch, standard error has lines during the run; standard output and the status are the
+    same."""
+    answers(program, wanted, tmp_path)
+
+
 def large() -> Iterator[Named]:
-    """The marks of 16,000,000 variables, a set of 1,100,000 dropped identities, and a row with room
-    for 16,000,000 literals; streams longer than a ring: 200,000 line ends, and 20,000 lines."""
     yield streams("16,000,000 variables", "", 3, ADDED, "2 16000000 0 1 0\n",
                   formula="p cnf 16000000 1\n16000000 0\n")
     drops = lambda: "".join(f"5 d {identity} 0\n" for identity in range(6, 2200005, 2))
@@ -323,9 +279,14 @@ def large() -> Iterator[Named]:
                       "20000 added, 0 deleted, ended", lines)
 
 
+@each_of(large())
+def test_large(program: str, wanted: Wanted, tmp_path: Path) -> None:
+    """The marks of 16,000,000 variables, a set of 1,100,000 dropped identities, and a row with room
+    for 16,000,000 literals; streams longer than a ring: 200,000 line ends, and 20,000 lines."""
+    answers(program, wanted, tmp_path)
+
+
 def largest() -> Iterator[Named]:
-    """Up to 2 GB: a row with room for 110,000,000 literals, and a formula of more than 1 GB, which
-    has one long comment before the four clauses."""
     for options in WAYS:
         yield streams(f"a room of 110,000,000 literals {options}", f"--room 110000000 {options}", 0,
                       BOTH_ADDED, TWO)
@@ -334,8 +295,15 @@ def largest() -> Iterator[Named]:
                                                      files=FILES, pipes={"pipe": pieces})
 
 
+@pytest.mark.usefixtures("much_memory")
+@each_of(largest())
+def test_largest(program: str, wanted: Wanted, tmp_path: Path) -> None:
+    """Up to 2 GB: a row with room for 110,000,000 literals, and a formula of more than 1 GB, which
+    has one long comment before the four clauses."""
+    answers(program, wanted, tmp_path)
+
+
 def little_memory() -> Iterator[Named]:
-    """The program runs in a small address space, with stacks of 8 MB."""
     within = 'ulimit -s 8192 && ulimit -v {} && exec "$@"'
     yield refused("out of memory", 6, "--room", "268000000", "formula", "one",
                   shell=within.format(1000000))
@@ -343,8 +311,13 @@ def little_memory() -> Iterator[Named]:
                   shell=within.format(9000))
 
 
+@each_of(little_memory())
+def test_little_memory(program: str, wanted: Wanted, tmp_path: Path) -> None:
+    """The program runs in a small address space, with stacks of 8 MB."""
+    answers(program, wanted, tmp_path)
+
+
 def full_outputs() -> Iterator[Named]:
-    """If standard error can't be written, the status is the same."""
     cut = "lrupd: cannot write report\n"
     for name, shell, status, words, err in [
             ("a full output", 'exec "$@" > /dev/full', 7, ["formula", "one"], cut),
@@ -355,74 +328,80 @@ def full_outputs() -> Iterator[Named]:
         yield name, Wanted(words, status, err=err, files=FILES, shell=shell)
 
 
-# Not compared literally.
+@each_of(full_outputs())
+def test_full_outputs(program: str, wanted: Wanted, tmp_path: Path) -> None:
+    """If standard error can't be written, the status is the same."""
+    answers(program, wanted, tmp_path)
 
 
-def usage(program: str, words: List[str], work: Path) -> None:
+# Messages that aren't compared literally, and --watch.
+
+
+@pytest.mark.parametrize("words", [
+    pytest.param([], id="no words"),
+    pytest.param(["formula"], id="no stream"),
+    pytest.param(["--help"], id="help"),
+    pytest.param(["--tries", "1000001", "absent", "absent"], id="too many tries"),
+    pytest.param(["--lines", "268435457", "absent", "absent"], id="too many lines"),
+    pytest.param(["--room", "x", "absent", "absent"], id="no number"),
+    pytest.param(["--fast", "absent", "absent"], id="no such option"),
+    pytest.param(["\udcff", "absent"], id="a word that is no UTF-8"),
+    pytest.param(["--assume", "cube", "--assume", "cube", "formula", "one"],
+                 id="assumptions twice"),
+    pytest.param(["--watch", "--watch", "formula", "one"], id="watched twice"),
+    pytest.param(["--rounds", ".", "--rounds", ".", "formula", "one"], id="rounds twice"),
+    pytest.param(["--rounds", ".", "formula"], id="rounds without a stream")])
+def test_usage(program: str, words: List[str], tmp_path: Path) -> None:
     """There is no report, but the help or one usage fault. No line begins with 'lrupd: ', and the
     first line isn't repeated."""
-    out, err, status = answered(program,
-                                Wanted(words, 2, files={**FILES, "cube": CUBE.read_text()}), work)
-    want((out, status), ("", 2), "the output and the status")
-    lines = err.splitlines()
-    assert lines and lines.count(lines[0]) == 1 and not any(
-        line.startswith("lrupd: ") for line in lines), (
-            f"expected one usage message, but found\n{err}")
+    files = {**FILES, "cube": CUBE.read_text()}
+    out, err, status = answered(program, Wanted(words, 2, files=files), tmp_path)
+    assert (out, status) == ("", 2)
+    first, *others = err.splitlines()
+    assert first not in others
+    assert not any(line.startswith("lrupd: ") for line in [first, *others]), err
 
 
-def help_text(program: str, work: Path) -> None:
-    """Options and sizes, in the words of the manual page, except for line breaks."""
-    err = answered(program, Wanted(["--help"], 2), work).err
+def test_help_has_the_manuals_words(program: str, tmp_path: Path) -> None:
+    """Options and sizes, except for line breaks."""
+    err = answered(program, Wanted(["--help"], 2), tmp_path).err
     shown = re.findall(r"^ {6}--(\w+)(?: <(\w+)>)?\n((?: {10}.*\n)+)", err, re.M)
     items = re.findall(r"^\.It Fl -(\w+)(?: Ar (\w+))?\n((?:(?!\.It).*\n)*)",
                        interface.part(interface.MANUAL, "options"), re.M)
-    want(*([(name, value.lower(), interface.words_in(text)) for name, value, text in options]
-           for options in (shown, items)),
-         "the options in --help")
+    in_help, on_page = ([(name, value.lower(), interface.words_in(text))
+                         for name, value, text in options] for options in (shown, items))
+    assert in_help == on_page
     sizes, words = (" ".join(interface.words_in(text))
                     for text in (interface.part(interface.MANUAL, "sizes"), err))
-    assert sizes in words, f"wanted '{sizes}' in\n{err}"
+    assert sizes in words
 
 
-def many_watched(program: str, work: Path) -> None:
-    """The end of each of 64 streams has a line, in any order."""
+def test_each_of_64_streams_is_watched(program: str, tmp_path: Path) -> None:
+    """The end of each stream has a line, in any order."""
     words = [*SMALL_ROW, "formula", *["one"] * 64]
-    plain = answered(program, Wanted(words, 3, files=FILES), work)
-    out, err, status = answered(program, Wanted(["--watch", *words], 3, files=FILES), work)
-    lines = [line.replace("c ", "lrupd: ", 1) for line in plain.out.splitlines()
-            if line.startswith("c ")]
-    want((out, sorted(err.splitlines()), status), (plain.out, sorted(lines), 3), "the answer")
+    plain = answered(program, Wanted(words, 3, files=FILES), tmp_path)
+    out, err, status = answered(program, Wanted(["--watch", *words], 3, files=FILES), tmp_path)
+    assert (out, status) == (plain.out, 3)
+    ends = [line for line in plain.out.splitlines() if line.startswith("c ")]
+    assert sorted(err.splitlines()) == sorted(line.replace("c ", "lrupd: ", 1) for line in ends)
 
 
-def watched_line_by_line(program: str, words: Words, lines: int, work: Path) -> None:
-    """Each line of --watch is one write: a packet socket keeps writes apart."""
+@pytest.mark.parametrize("words, lines", [
+    pytest.param("formula one", 1, id="one stream"),
+    pytest.param("formula one one one one one", 5, id="five streams"),
+    pytest.param("--rounds d formula d/round-1.stream-1", 3, id="two rounds")])
+def test_a_watched_line_is_one_write(program: str, way: List[str], words: str, lines: int,
+                                     tmp_path: Path) -> None:
+    """There is a line at the end of each stream in each round, and one at the start of each round
+    but the first. A packet socket keeps writes apart."""
     for name, text in {**FILES, "d/round-1.stream-1": ONE,
                        "d/round-2.stream-1": "6 0 5 3 4 0\n"}.items():
-        written(text, work, name)
+        written(text, tmp_path, name)
     reader, writer = socket.socketpair(socket.AF_UNIX, socket.SOCK_SEQPACKET)
-    with reader, started([program, *SMALL_ROW, *words], cwd=work, stdout=subprocess.DEVNULL,
-                         stderr=writer):
+    command = [program, "--watch", *way, *SMALL_ROW, *words.split()]
+    with reader, started(command, cwd=tmp_path, stdout=subprocess.DEVNULL, stderr=writer):
         writer.close()
         packets = [*iter(lambda: reader.recv(65536), b"")]
-    want((len(packets), [packet for packet in packets if packet.find(b"\n") != len(packet) - 1]),
-         (lines, []), "the writes")
-
-
-def rows(program: str) -> Iterator[Row]:
-    for table in (examples, one_stream, faults, several_streams, pipes, paths, refused_formulas,
-                  refused_files, version, assumptions, refused_assumptions, watched, large,
-                  little_memory, full_outputs):
-        for name, wanted in table():
-            yield name, answers, program, wanted
-    for name, wanted in largest():
-        yield name, with_memory, answers, program, wanted
-    for name, words in USAGE:
-        yield name, usage, program, words
-    yield "the words of help", help_text, program
-    yield "64 streams, watched", many_watched, program
-    for words, lines in TOLD:
-        yield (f"a write for each line of {' '.join(words)}", watched_line_by_line,
-               program, words, lines)
-
-
-test_row = parametrized(rows(PROGRAM))
+    assert len(packets) == lines
+    for packet in packets:
+        assert packet.index(b"\n") == len(packet) - 1

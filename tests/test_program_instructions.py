@@ -1,6 +1,6 @@
-"""Counts the program's instructions with valgrind, and compares them with the recorded figures.
+"""The numbers of instructions that lrupd takes, by valgrind, compared with the recorded figures.
 
-PROGRAM is built by LLVM. With --serial, runs over the same files take the same number of
+lrupd is built by LLVM. With --serial, runs over the same files take the same number of
 instructions. Only the lines are to be counted, so a run over empty streams is subtracted. Each
 count has to be within 5 % of its figure: the toolchain is fixed, and the margin is for other C
 libraries and processors. If a change is meant to move a count, replace its figure with the printed
@@ -8,10 +8,9 @@ one. How the work grows with an assumed cube is checked by ratios, which need no
 import os
 import re
 from pathlib import Path
-from typing import List, Sequence
+from typing import Sequence
 
-from harness import (PROGRAM, SMALL_ROW, Row, enough_for, example, needs, parametrized, report, run,
-                     want, written)
+from harness import SMALL_ROW, enough_for, example, needs, report, run, written
 
 FOUR_SOLVERS, LONG_LINES = 6_259_316, 9_082_910
 MARGIN = 0.05
@@ -24,68 +23,61 @@ def counted(program: str, words: Sequence[object], wanted: str) -> int:
     needs("valgrind")
     done = run(["valgrind", "--tool=callgrind", f"--callgrind-out-file={os.devnull}", program,
                 "--serial", *words])
-    want(done.out, wanted, f"{done.err}the report")
+    assert done.out == wanted
     found = re.search(r"^==\d+== Collected : (\d+)$", done.err, re.M)
-    assert found, f"valgrind counted nothing\n{done.err}"
+    assert found, done.err
     return int(found[1])
 
 
 def want_count(program: str, formula: Path, streams: Sequence[Path], wanted: str,
                figure: int) -> None:
+    """The lines take as many instructions as recorded."""
     nothing = report(["0 added, 0 deleted, ended"] * len(streams), 3)
     words = [*enough_for(streams), formula]
     empty = counted(program, [*words, *[os.devnull] * len(streams)], nothing)
     count = counted(program, [*words, *streams], wanted) - empty
     print(f"{count} instructions, of {figure}, or 5 % more or less")
-    assert abs(count - figure) <= MARGIN * figure, "the count differs from the recorded figure"
+    assert abs(count - figure) <= MARGIN * figure
 
 
-def four_solvers(program: str, work: Path) -> None:
+def test_four_solvers(program: str) -> None:
     """3,000 lines of some 70 bytes, each whole within one read."""
     streams = [example(f"bmc-four.{number}") for number in range(1, 5)]
     want_count(program, example("bmc.cnf"), streams, example("bmc-four.out").read_text(),
                FOUR_SOLVERS)
 
 
-def long_lines(program: str, work: Path) -> None:
+def test_long_lines(program: str, tmp_path: Path) -> None:
     """A line with the most literals, and one with the most hints, neither of which fits into a
     read. The third hint is one too many."""
-    stream = written(f"5 {'2 ' * LITERALS}0 1 2 0\n6 2 0 1 2 {'100001 ' * (HINTS - 2)}0\n", work)
+    stream = written(f"5 {'2 ' * LITERALS}0 1 2 0\n6 2 0 1 2 {'100001 ' * (HINTS - 2)}0\n",
+                     tmp_path)
     want_count(program, example("four-clause.cnf"), [stream],
                report(["1 added, 0 deleted, bad line 2 (excess 100001)"], 3), LONG_LINES)
 
 
-def assumed(program: str, literals: int, lines: int, work: Path) -> int:
+def assumed(program: str, literals: int, lines: int, tmp_path: Path) -> int:
     """Some additions under that many assumed literals; no addition contradicts them."""
-    formula = written(f"p cnf {LITERALS} 2\n1 2 0\n-1 2 0\n", work)
-    cube = written("".join(f"{literal} " for literal in range(1, literals + 1)) + "0\n", work,
+    formula = written(f"p cnf {LITERALS} 2\n1 2 0\n-1 2 0\n", tmp_path)
+    cube = written("".join(f"{literal} " for literal in range(1, literals + 1)) + "0\n", tmp_path,
                    "cube")
-    stream = written("".join(f"{number} 2 0 1 2 0\n" for number in range(3, 3 + lines)), work,
+    stream = written("".join(f"{number} 2 0 1 2 0\n" for number in range(3, 3 + lines)), tmp_path,
                      "stream")
     return counted(program, [*SMALL_ROW, "--assume", cube, formula, stream],
                    report([f"{lines} added, 0 deleted, ended"], 3))
 
 
-def lines_under_a_cube(program: str, work: Path) -> None:
+def test_lines_under_a_cube(program: str, tmp_path: Path) -> None:
     """A cube is searched by bisection: lines under a large cube need only a few more instructions
     than under a small one."""
-    few, many = [assumed(program, count, LINES, work) - assumed(program, count, 0, work)
+    few, many = [assumed(program, count, LINES, tmp_path) - assumed(program, count, 0, tmp_path)
                  for count in (1, ASSUMED)]
     print(f"{many} instructions under {ASSUMED:,} literals, {few} under one")
-    assert many <= 2 * few, "more than twice as many"
+    assert many <= 2 * few
 
 
-def large_cube(program: str, work: Path) -> None:
+def test_a_large_cube(program: str, tmp_path: Path) -> None:
     """A cube is sorted once: twice as many literals take little more than twice as long."""
-    none, small, large = [assumed(program, count, 0, work) for count in (0, 4_000, 8_000)]
+    none, small, large = [assumed(program, count, 0, tmp_path) for count in (0, 4_000, 8_000)]
     print(f"{large - none} instructions for 8,000 literals, {small - none} for 4,000")
-    assert large - none <= 3 * (small - none), "more than three times as many"
-
-
-def rows(program: str) -> List[Row]:
-    return [("four solvers", four_solvers, program), ("long lines", long_lines, program),
-            ("lines under a cube", lines_under_a_cube, program),
-            ("a large cube", large_cube, program)]
-
-
-test_row = parametrized(rows(PROGRAM))
+    assert large - none <= 3 * (small - none)

@@ -1,10 +1,10 @@
-"""Runs the program under valgrind: each block of memory has to be freed, and no invalid memory may
-be used."""
+"""lrupd under valgrind: each block of memory is freed, and no invalid memory is used."""
 from pathlib import Path
-from typing import Iterator, List, Tuple
+from typing import List, Sequence, Tuple
 
-from harness import (PROGRAM, SMALL_ROW, Row, enough_for, example, needs, parametrized, run, want,
-                     written)
+import pytest
+
+from harness import SMALL_ROW, enough_for, example, needs, run, written
 from rounds import ONE, TWO, Texts, first_words, round_files
 
 VALGRIND = ["valgrind", "--quiet", "--error-exitcode=99", "--leak-check=full",
@@ -23,42 +23,39 @@ RUNS: List[Tuple[int, List[object]]] = [
     (4, [FIRST, FIRST]),
     (5, [FOUR, FIRST, example("no such file")]),
 ]
-# Runs in rounds that end with the empty clause, without it, with a wrong line and with faults; and
-# the sizes of round 2.
-ROUNDS: List[Tuple[int, Texts, str]] = [
-    (0, ONE.texts, "1 9 9\n"),
-    (0, TWO.texts, "2 9 9\n"),
-    (3, TWO.texts[:2], "2 9 9\n"),
-    (3, [*ONE.texts[:2], ["5 1 0 0\n"]], "1 9 9\n"),
-    (2, TWO.texts, "2 268435456 9\n"),
-    (2, TWO.texts, "2 9\n"),
-    (5, TWO.texts, "3 9 9\n"),
-]
 
 
-def gives_back(program: str, status: int, words: List[object], work: Path) -> None:
+def want_freed(program: str, status: int, words: Sequence[object], folder: Path) -> None:
+    """valgrind finds no leak and no error, so the status is lrupd's."""
     needs("valgrind")
-    found = run([*VALGRIND, program, *words], cwd=work)
-    want(found.status, status, f"{found.out}{found.err}the status")
+    found = run([*VALGRIND, program, *words], cwd=folder)
+    assert found.status == status, found.err
 
 
-def gives_back_in_rounds(program: str, status: int, options: str, texts: Texts, sizes: str,
-                         work: Path) -> None:
+@pytest.mark.parametrize("status, words", [
+    pytest.param(status, words, id=" ".join(getattr(word, "name", str(word)) for word in words))
+    for status, words in RUNS])
+def test_one_round(program: str, way: List[str], status: int, words: Sequence[object],
+                   tmp_path: Path) -> None:
+    want_freed(program, status, [*way, *words], tmp_path)
+
+
+@pytest.mark.parametrize("status, texts, sizes", [
+    pytest.param(0, ONE.texts, "1 9 9\n", id="the empty clause"),
+    pytest.param(0, TWO.texts, "2 9 9\n", id="the empty clause, of two streams"),
+    pytest.param(3, TWO.texts[:2], "2 9 9\n", id="no empty clause"),
+    pytest.param(3, [*ONE.texts[:2], ["5 1 0 0\n"]], "1 9 9\n", id="a wrong line"),
+    pytest.param(2, TWO.texts, "2 268435456 9\n", id="sizes too large"),
+    pytest.param(2, TWO.texts, "2 9\n", id="wrong sizes"),
+    pytest.param(5, TWO.texts, "3 9 9\n", id="a missing stream")])
+def test_rounds(program: str, way: List[str], status: int, texts: Texts, sizes: str,
+                tmp_path: Path) -> None:
+    """Round 2 has these sizes."""
     for name, text in {**round_files(texts), "d/round-2.sizes": sizes}.items():
-        written(text, work, name)
-    words = ["--tries", "1000000", *SMALL_ROW, *options.split(), *first_words(texts)]
-    gives_back(program, status, words, work)
+        written(text, tmp_path, name)
+    words = ["--tries", "1000000", *SMALL_ROW, *way, *first_words(texts)]
+    want_freed(program, status, words, tmp_path)
 
 
-def rows(program: str) -> Iterator[Row]:
-    for options in "", "--serial":
-        for number, (status, texts, sizes) in enumerate(ROUNDS, 1):
-            yield (f"in rounds, {number} {options}", gives_back_in_rounds, program, status,
-                   options, texts, sizes)
-        for status, words in RUNS:
-            words = [*options.split(), *words]
-            yield " ".join(map(str, words)), gives_back, program, status, words
-    yield "--help", gives_back, program, 2, ["--help"]
-
-
-test_row = parametrized(rows(PROGRAM))
+def test_help(program: str, tmp_path: Path) -> None:
+    want_freed(program, 2, ["--help"], tmp_path)

@@ -1,19 +1,19 @@
-"""First, four recorded solvers each write their lines into a pipe, at a steady pace, and the
-program checks them all at the same time. The report comes when the last solver ends, after some
-five seconds. Then come two pipes with --watch: a bad line in one is reported while both are open.
-Next comes the first half of the four solvers' lines, with a checkpoint, which stays empty until all
-streams have ended. Last come pipes without writers, which --watch names after a second.
+"""lrupd over pipes that are written while it runs.
 
-The report has to be that in bmc-four.out, and without --watch nothing may be on standard error."""
+Four recorded solvers each write their lines into a pipe, at a steady pace, and lrupd checks them
+all at the same time. With --watch, a bad line is reported while its pipe is open, and a pipe
+without a writer is named after a second. A checkpoint stays empty until all streams have ended."""
 import re
 import subprocess
 import time
 from pathlib import Path
 from typing import Iterator, List, NamedTuple, Union
 
+import pytest
+
 from checkpoints import live, printed, variables_of, want_checkpoint
-from harness import (FOUR, LIMIT, PROGRAM, Ran, Row, example, feed, held, parametrized, piped,
-                     report, run, started, until, unwatched, want, written)
+from harness import (FOUR, LIMIT, Ran, example, feed, held, piped, report, run, started, until,
+                     unwatched, written)
 from rounds import last, stream_name
 
 PAUSE = 0.004  # seconds, after each of some 750 lines
@@ -53,16 +53,16 @@ def lines_of(number: int) -> Iterator[Union[bytes, float]]:
         yield PAUSE
 
 
-def four_solvers(program: str, work: Path) -> None:
-    pipes = [piped(work / str(number)) for number in range(1, 5)]
+def test_four_solvers(program: str, tmp_path: Path) -> None:
+    pipes = [piped(tmp_path / str(number)) for number in range(1, 5)]
     for number, pipe in enumerate(pipes, 1):
         feed(pipe, lines_of(number))
-    found = run([program, "--tries", "1000000", example("bmc.cnf"), *pipes])
-    want(found, Ran(example("bmc-four.out").read_text(), "", 0), "the answer")
+    found = run([program, "--tries", "1000000", example("bmc.cnf"), *pipes])    # some five seconds
+    assert found == Ran(example("bmc-four.out").read_text(), "", 0)
 
 
-def reported_while_open(program: str, work: Path) -> None:
-    pipes, errors = [work / "bad", work / "open"], work / "errors"
+def test_a_bad_line_is_reported_while_pipes_are_open(program: str, tmp_path: Path) -> None:
+    pipes, errors = [tmp_path / "bad", tmp_path / "open"], tmp_path / "errors"
     words = [program, "--watch", example("four-clause.cnf"), *pipes]
     with held(pipes[0]) as bad, held(pipes[1]) as end, open(errors, "wb") as err, \
             started(words, stdout=subprocess.PIPE, stderr=err, text=True) as checker:
@@ -73,14 +73,15 @@ def reported_while_open(program: str, work: Path) -> None:
         out, _ = checker.communicate(timeout=LIMIT)
         status = checker.returncode
     ends = BAD + "lrupd: stream 2: 0 added, 0 deleted, ended\n"
-    want(Ran(out, errors.read_text(), status),
-         Ran(re.sub("^lrupd:", "c", ends, flags=re.M) + "s UNKNOWN\n", ends, 3), "the answer")
+    assert errors.read_text() == ends
+    assert out == re.sub("^lrupd:", "c", ends, flags=re.M) + "s UNKNOWN\n"
+    assert status == 3
 
 
-def checkpoint_at_the_end(program: str, work: Path) -> None:
+def test_a_checkpoint_is_written_at_the_end(program: str, tmp_path: Path) -> None:
     halves = [written("".join(example(f"bmc-four.{number}").read_text().splitlines(True)[:370]),
-                      work, f"half{number}") for number in range(1, 5)]
-    pipes, saved, formula = ([work / str(number) for number in range(1, 5)], work / "saved",
+                      tmp_path, f"half{number}") for number in range(1, 5)]
+    pipes, saved, formula = ([tmp_path / str(number) for number in range(1, 5)], tmp_path / "saved",
                              example("bmc.cnf"))
     words = [program, "--tries", "1000000", "--checkpoint", saved, formula, *pipes]
     ends = list(map(held, pipes))
@@ -88,54 +89,44 @@ def checkpoint_at_the_end(program: str, work: Path) -> None:
         for half, end in zip(halves, ends):
             end.write(half.read_bytes())
         until("the checkpoint is created", saved.exists)
-        want((checker.poll(), saved.read_text()), (None, ""),
-             "the status and the checkpoint while the pipes are open")
+        assert checker.poll() is None
+        assert saved.read_text() == ""
         for end in ends:
             end.close()
         out, _ = checker.communicate(timeout=LIMIT)
-    want((out.count(" 370 added, 0 deleted, ended\n"), checker.returncode), (4, 3),
-         f"{out}the streams that ended, and the status")
+    assert out.count(" 370 added, 0 deleted, ended\n") == 4
+    assert checker.returncode == 3, out
     want_checkpoint(saved, printed(variables_of(formula), live(formula, halves)))
 
 
-def late_writers(row: Late, program: str, work: Path) -> None:
+@pytest.mark.parametrize("row", [
+    pytest.param(row, id=f"{row.words}, and late are {' and '.join(row.late) or 'none'}")
+    for row in LATE_WRITERS])
+def test_late_writers(program: str, row: Late, tmp_path: Path) -> None:
     """With --watch, each pipe that has no writer for a second is named; otherwise no pipe is. Each
     late pipe gets its writer after some time, with --watch after the line that names the pipe."""
     for name in row.pipes:
-        pipe = piped(work / name)
+        pipe = piped(tmp_path / name)
         if name not in row.late:
             feed(pipe, [TEXTS[name].encode()])
-    errors, words = work / "errors", [program, *row.words.split()]
-    named: List[str] = []
+    errors, words = tmp_path / "errors", [program, *row.words.split()]
+    expected: List[str] = []
 
-    def found() -> List[str]:
+    def named() -> List[str]:
         return re.findall("^lrupd: (.*): waits for a writer$", errors.read_text(), re.M)
 
     began = time.monotonic()
-    with open(errors, "wb") as err, started(words, cwd=work, stdout=subprocess.PIPE, stderr=err,
-                                            text=True) as checker:
+    with open(errors, "wb") as err, started(words, cwd=tmp_path, stdout=subprocess.PIPE,
+                                            stderr=err, text=True) as checker:
         for name in row.late:
             if "--watch" in words:
-                named.append(name)
-                until(f"{name} is named on standard error", lambda: found() == named)
-                want(time.monotonic() - began >= 1, True,
-                     f"whether {name} had no writer for a second")
+                expected.append(name)
+                until(f"{name} is named on standard error", lambda: named() == expected)
+                assert time.monotonic() - began >= 1
             time.sleep(LATE)
-            want(found(), named, "the pipes named before the writer comes")
+            assert named() == expected      # before the writer comes
             began = time.monotonic()
-            written(TEXTS[name], work, name)
+            written(TEXTS[name], tmp_path, name)
         out, _ = checker.communicate(timeout=LIMIT)
-    want(Ran(out, unwatched(errors.read_text()), checker.returncode), row.answer, "the answer")
-    want(found(), named, "the pipes named")
-
-
-def rows(program: str) -> Iterator[Row]:
-    yield "four solvers", four_solvers, program
-    yield "reported while the pipes are open", reported_while_open, program
-    yield "a checkpoint at the end", checkpoint_at_the_end, program
-    for row in LATE_WRITERS:
-        late = " and ".join(row.late) or "none"
-        yield f"{row.words}, and late are {late}", late_writers, row, program
-
-
-test_row = parametrized(rows(PROGRAM))
+    assert Ran(out, unwatched(errors.read_text()), checker.returncode) == row.answer
+    assert named() == expected

@@ -1,5 +1,4 @@
-"""Runs the program on a good proof of some thousand lines beside hostile neighbours, one after the
-other.
+"""lrupd on a good proof of some thousand lines beside hostile neighbours, one after the other.
 
 The proof cites no other stream, so its line in the report has to be the same each time as beside an
 empty stream, with threads and with --serial. For some neighbours, the line of the neighbour is
@@ -11,8 +10,9 @@ import time
 from pathlib import Path
 from typing import Any, Callable, Iterator, List, NamedTuple, Optional, Union
 
-from harness import (LIMIT, PROGRAM, Pieces, Row, example, feed, parametrized, piped, started, want,
-                     written)
+import pytest
+
+from harness import LIMIT, Pieces, example, feed, piped, started, written
 
 FORMULA = example("bmc.cnf")
 CLAUSES = 533
@@ -108,10 +108,15 @@ def neighbours(proof: str) -> Iterator[Neighbour]:
     yield Neighbour("silence", silent, "0 added, 0 deleted, ended")
 
 
-def beside(program: str, way: List[str], neighbour: Neighbour, proof: str, wanted: str,
-           work: Path) -> None:
-    """The report on the proof, and on its neighbour if that is known."""
-    own, other, what = written(proof, work, "proof"), work / "other", neighbour.what
+LINES = example("bmc.lrup").read_text().splitlines()
+PROOF = "".join(map(renumbered, LINES))
+
+
+@pytest.mark.parametrize("neighbour", [pytest.param(neighbour, id=neighbour.name)
+                                       for neighbour in neighbours(PROOF)])
+def test_a_neighbour_changes_nothing(program: str, way: List[str], neighbour: Neighbour,
+                                     tmp_path: Path) -> None:
+    own, other, what = written(PROOF, tmp_path, "proof"), tmp_path / "other", neighbour.what
     if isinstance(what, bytes):
         other.write_bytes(what)
     else:
@@ -122,22 +127,13 @@ def beside(program: str, way: List[str], neighbour: Neighbour, proof: str, wante
         out, err = process.communicate(timeout=LIMIT)
     if feeds:
         feeds.join(LIMIT)
-    lines = out.splitlines()
-    known = neighbour.known or (lines[1].replace("c stream 2: ", "", 1) if len(lines) == 3 else "")
-    want((lines, process.returncode), ([wanted, f"c stream 2: {known}", "s UNSATISFIABLE"], 0),
-         f"{err}the report")
-
-
-def rows(program: str) -> Iterator[Row]:
-    lines = example("bmc.lrup").read_text().splitlines()
-    proof = "".join(map(renumbered, lines))
-    deleted = sum(len(line.split()) - 3 for line in lines if " d " in line)
-    added = sum(" d " not in line for line in lines)
-    wanted = f"c stream 1: {added} added, {deleted} deleted, ended"
-    for options in "", "--serial":
-        for neighbour in neighbours(proof):
-            yield (f"{options or 'threads'}, {neighbour.name}", beside, program, options.split(),
-                   neighbour, proof, wanted)
-
-
-test_row = parametrized(rows(PROGRAM))
+    assert process.returncode == 0, err
+    of_proof, of_neighbour, verdict = out.splitlines()
+    added = sum(" d " not in line for line in LINES)
+    deleted = sum(len(line.split()) - 3 for line in LINES if " d " in line)
+    assert of_proof == f"c stream 1: {added} added, {deleted} deleted, ended"
+    if neighbour.known:
+        assert of_neighbour == f"c stream 2: {neighbour.known}"
+    else:
+        assert of_neighbour.startswith("c stream 2: ")
+    assert verdict == "s UNSATISFIABLE"

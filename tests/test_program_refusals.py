@@ -20,7 +20,7 @@ from typing import Dict, Iterator, List, NamedTuple, Optional, Sequence, Set, Tu
 
 import pytest
 
-from harness import (BUILDS, EXAMPLES, FOUR, PROGRAM, ROOT, RT, SMALL_ROW, TESTS, Row, alone,
+from harness import (BUILDS, EXAMPLES, FOUR, PROGRAM, ROOT, RT, SMALL_ROW, SUPPORT, Row, alone,
                      compiled, enough_for, parametrized, piped, report, run, waiting, want, written)
 from refused import (ERRORS_OF_READS, FOUR_CLAUSE, SECONDS, SHORT, Answer, Input, InRounds, Machine,
                      complaints, complaints_in_rounds, is_right, not_started)
@@ -85,9 +85,9 @@ def sweep(machine: Machine, given: Input, kind: str, how: str) -> Tuple[int, Lis
             return number, [*wrong, f"{given.name}, more calls than may be: {refuse}"]
     if answer != ample or answer.status is None:
         wrong.append(f"{given.name}, nothing refused: {answer}")
-    complain = complaints_in_rounds if isinstance(given, InRounds) else complaints
-    return number - 1, wrong + [f"{given.name}, {kind} {how}: {complaint}"
-                                for complaint in complain(kind, how, ample, answers, given)]
+    found = (complaints_in_rounds(kind, how, ample, answers, given) if isinstance(given, InRounds)
+             else complaints(kind, how, ample, answers, given))
+    return number - 1, wrong + [f"{given.name}, {kind} {how}: {complaint}" for complaint in found]
 
 
 def clauses(count: int) -> str:
@@ -190,8 +190,8 @@ def checkpoints(serial: List[str], files: Dict[str, Path], folder: Path) -> Iter
 
 def in_rounds(serial: List[str], folder: Path) -> Iterator[Input]:
     """Three rounds to the empty clause, and three that derive less."""
-    for name, proof, more in (("one", ONE, []), ("two", TWO, []), ("unknown", UNKNOWN, []),
-                              ("watched", ONE, ["--watch"])):
+    for name, proof, more in (("one", ONE, ()), ("two", TWO, ()), ("unknown", UNKNOWN, ()),
+                              ("watched", ONE, ("--watch",))):
         whole = " ".join(["three rounds,", name, *serial])
         yield InRounds(whole, [*(serial or ["--tries", "20000"]), *more], proof, folder / whole)
 
@@ -314,7 +314,7 @@ def sweep_test(machine: Machine, test: Test, kind: str) -> Tuple[int, List[str]]
 
 def unjoined(folder: Path) -> None:
     """A program that waits for none of its threads is found wrong."""
-    program = compiled(folder / "unjoined", [TESTS / "unjoined.c"], "-std=gnu11", "-pthread")
+    program = compiled(folder / "unjoined", [SUPPORT / "unjoined.c"], "-std=gnu11", "-pthread")
     machine, found = Machine(str(program), folder, VERY_LATE), []
     for number in range(1, 7):
         answer, _, _ = machine.run([], f"thread:{number}")

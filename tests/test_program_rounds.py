@@ -1,8 +1,8 @@
-"""Runs the program with --rounds, and compares its answers and checkpoints.
+"""lrupd --rounds: the answers, and the checkpoint after each round, with threads and with --serial.
 
-Each row runs with threads and with --serial. The first round and later ones end with each verdict
-and with wrong lines; streams and sizes are files and pipes, and a checkpoint is replaced between
-two rounds. What stops a round is in test_program_rounds_faults.py."""
+The first round and later ones end with each verdict and with wrong lines; streams and sizes are
+files and pipes, and a checkpoint is replaced between two rounds. What stops a round is in
+test_program_rounds_faults.py."""
 import re
 import shutil
 import subprocess
@@ -10,12 +10,13 @@ import time
 from pathlib import Path
 from typing import Any, Callable, Dict, Iterator, List, Sequence
 
+import pytest
+
 from checkpoints import printed
-from harness import (FOUR, LIMIT, PROGRAM, SMALL_ROW, Ran, Row, Wanted, answered, answers, dimacs,
-                     held, parametrized, piped, read_from, run, small, started, until, waiting,
-                     want, written)
+from harness import (FOUR, LIMIT, SMALL_ROW, Pieces, Ran, Wanted, answered, answers, dimacs,
+                     each_of, held, piped, read_from, run, small, started, until, waiting, written)
 from rounds import (ADDED, BAD, BAD_SAID, DERIVING, NOTHING, ONE, OTHER, REFUTING, SAVED, SAVED_ONE,
-                    TRIES, TWO, WAYS, Named, Texts, dropped_first, fault, first_words, last, plain,
+                    TRIES, TWO, Named, Proof, Texts, dropped_first, fault, first_words, last, plain,
                     round_files, rounds, saved_name, stream_name)
 
 UNREAD = "0 added, 0 deleted, read failed at line 1"
@@ -29,43 +30,46 @@ HEARD: Dict[str, Any] = {"stdout": subprocess.PIPE, "stderr": subprocess.PIPE, "
 def ends() -> Iterator[Named]:
     for proof, count in (ONE, "one"), (TWO, "two"):
         texts, said, saved = proof
-        yield from rounds(f"three rounds, {count}", 0, texts, last(3, said[2], 0),
-                          saved=saved, options=TRIES)
-        yield from rounds(f"two rounds, {count}", 3, texts[:2], last(2, said[1], 3),
-                          saved=saved[:2])
-        yield from rounds(f"one round, {count}", 3, texts[:1], last(1, said[0], 3), saved=saved[:1])
+        yield rounds(f"three rounds, {count}", 0, texts, last(3, said[2], 0),
+                     saved=saved, options=TRIES)
+        yield rounds(f"two rounds, {count}", 3, texts[:2], last(2, said[1], 3),
+                     saved=saved[:2])
+        yield rounds(f"one round, {count}", 3, texts[:1], last(1, said[0], 3), saved=saved[:1])
     texts, said, saved = ONE
     end = last(3, said[2], 0)
-    yield from rounds("rounds after the last one", 0, [*texts, [BAD]], end, saved=saved)
-    yield from rounds("a round that is left out", 3, texts[:1], last(1, said[0], 3),
-                      saved=saved[:1], others={stream_name(3): texts[2][0]})
-    yield from rounds("no round but the first", 0, [[REFUTING], [BAD]],
-                      last(1, ["2 added, 0 deleted, ended"], 0), saved=[""])
-    yield from rounds("the empty clause in round 2", 0, [[DERIVING], ["6 0 5 3 4 0\n"], [BAD]],
-                      last(2, [ADDED], 0), saved=[SAVED_ONE, ""])
-    yield from rounds("nothing", 3, [[""]] * 3, last(3, [NOTHING], 3), saved=[FOUR] * 3)
-    yield from rounds("a stream that isn't one of the round's", 0, texts, end, saved=saved,
-                      others={stream_name(2, 2): BAD, stream_name(3, 0): BAD,
-                              "d/round-2.stream-01": BAD})
+    yield rounds("rounds after the last one", 0, [*texts, [BAD]], end, saved=saved)
+    yield rounds("a round that is left out", 3, texts[:1], last(1, said[0], 3),
+                 saved=saved[:1], others={stream_name(3): texts[2][0]})
+    yield rounds("no round but the first", 0, [[REFUTING], [BAD]],
+                 last(1, ["2 added, 0 deleted, ended"], 0), saved=[""])
+    yield rounds("the empty clause in round 2", 0, [[DERIVING], ["6 0 5 3 4 0\n"], [BAD]],
+                 last(2, [ADDED], 0), saved=[SAVED_ONE, ""])
+    yield rounds("nothing", 3, [[""]] * 3, last(3, [NOTHING], 3), saved=[FOUR] * 3)
+    yield rounds("a stream that isn't one of the round's", 0, texts, end, saved=saved,
+                 others={stream_name(2, 2): BAD, stream_name(3, 0): BAD,
+                         "d/round-2.stream-01": BAD})
     # Round 1 is given by arguments: its files in the folder are ignored, and so are round 5's.
-    yield from rounds("sizes and a formula of round 1, and sizes of round 5", 0, texts, end,
-                      saved=saved, others={"d/round-1.sizes": "x", "d/round-1.cnf": OTHER,
-                                           "d/round-5.sizes": "x", "d/round-02.sizes": "x"})
-    yield from rounds("stream 1 leads nowhere", 3, texts[:1], last(1, said[0], 3), saved=saved[:1],
-                      do="ln -s absent d/round-2.stream-1; ")
+    yield rounds("sizes and a formula of round 1, and sizes of round 5", 0, texts, end,
+                 saved=saved, others={"d/round-1.sizes": "x", "d/round-1.cnf": OTHER,
+                                      "d/round-5.sizes": "x", "d/round-02.sizes": "x"})
+    yield rounds("stream 1 leads nowhere", 3, texts[:1], last(1, said[0], 3), saved=saved[:1],
+                 do="ln -s absent d/round-2.stream-1; ")
+
+
+@each_of(ends())
+def test_ends(program: str, way: List[str], wanted: Wanted, tmp_path: Path) -> None:
+    answers(program, wanted.under(way), tmp_path)
 
 
 def places() -> Iterator[Named]:
-    """The folder is a path like any other, and so are the arguments of round 1."""
     texts, said, saved = ONE
     given = round_files(texts)
     for folder, do in (("d/", ""), ("./d", ""), ("d//", ""), ("link", "ln -s d link; "),
                        ("../$(basename $PWD)/d", "")):
-        for way in WAYS:
-            shell = f'{do}exec "$@" --rounds {folder} formula {stream_name(1)}'
-            yield (f"the folder '{folder}' {way}",
-                   Wanted(way.split(), 0, last(3, said[2], 0), files=given, shell=shell,
-                          left={saved_name(2): saved[0], saved_name(3): saved[1]}))
+        shell = f'{do}exec "$@" --rounds {folder} formula {stream_name(1)}'
+        yield (f"the folder '{folder}'",
+               Wanted([], 0, last(3, said[2], 0), files=given, shell=shell,
+                      left={saved_name(2): saved[0], saved_name(3): saved[1]}))
     named = {name.replace("d/", "-d\n *é/"): text for name, text in given.items()}
     yield ("a folder with an odd name",
            Wanted(["--rounds=-d\n *é", "--", "formula", "-d\n *é/round-1.stream-1"], 0,
@@ -82,152 +86,146 @@ def places() -> Iterator[Named]:
                   given=texts[0][0], left={saved_name(2): saved[0]}))
 
 
+@each_of(places())
+def test_places(program: str, way: List[str], wanted: Wanted, tmp_path: Path) -> None:
+    """The folder is a path like any other, and so are the arguments of round 1."""
+    answers(program, wanted.under(way), tmp_path)
+
+
 def formulas() -> Iterator[Named]:
-    """Only the clauses and the header's variables are carried over; the next identities follow the
-    numbers of the checkpoint's clauses."""
     def formula(text: str) -> Dict[str, str]:
         return {"formula": text}
 
-    yield from rounds("no clauses", 3, [[""]] * 2, last(2, [NOTHING], 3), saved=["p cnf 0 0\n"] * 2,
-                      others=formula("p cnf 0 0\n"))
-    yield from rounds("all clauses dropped", 3, [["1 d 4 3 2 1 0\n"], [""]], last(2, [NOTHING], 3),
-                      saved=["p cnf 2 0\n"] * 2)
-    yield from rounds("an empty clause", 0, [[""], ["2 0 1 0\n"]], last(2, [ADDED], 0),
-                      saved=["p cnf 0 1\n0\n", ""], others=formula("p cnf 0 1\n0\n"))
-    yield from rounds(
+    yield rounds("no clauses", 3, [[""]] * 2, last(2, [NOTHING], 3), saved=["p cnf 0 0\n"] * 2,
+                 others=formula("p cnf 0 0\n"))
+    yield rounds("all clauses dropped", 3, [["1 d 4 3 2 1 0\n"], [""]], last(2, [NOTHING], 3),
+                 saved=["p cnf 2 0\n"] * 2)
+    yield rounds("an empty clause", 0, [[""], ["2 0 1 0\n"]], last(2, [ADDED], 0),
+                 saved=["p cnf 0 1\n0\n", ""], others=formula("p cnf 0 1\n0\n"))
+    yield rounds(
         "comments and lines", 3, [["7 2 0 1 2 0\n"], [""]], last(2, [NOTHING], 3),
         saved=[FOUR.replace("2 4", "2 5") + "c id 7\n2 0\n", SAVED_ONE],
         others=formula("c a\np  cnf\t2 4\n1\nc b\n2 0 -1 2\r\n0 1 -2 0 -1 -2 0\nc id 9\n"))
-    yield from rounds("a literal twice", 3, [[""], ["2 2 2 0 1 0\n"], [""]], last(3, [NOTHING], 3),
-                      saved=["p cnf 2 1\n2 0\n", *["p cnf 2 2\n2 0\n2 0\n"] * 2],
-                      others=formula("p cnf 2 1\n2 2 2 0\n"))
+    yield rounds("a literal twice", 3, [[""], ["2 2 2 0 1 0\n"], [""]], last(3, [NOTHING], 3),
+                 saved=["p cnf 2 1\n2 0\n", *["p cnf 2 2\n2 0\n2 0\n"] * 2],
+                 others=formula("p cnf 2 1\n2 2 2 0\n"))
     tautology = "p cnf 2 2\n1 -1 0\n2 0\n"
-    yield from rounds("a tautology", 3, [[""], ["3 2 0 2 0\n"]], last(2, [ADDED], 3),
-                      others=formula(tautology),
-                      saved=[tautology, tautology.replace("2 2", "2 3") + "2 0\n"])
-    yield from rounds("the largest variable", 3, [[""], ["2 -16777215 0 1 0\n"]],
-                      last(2, [ADDED], 3), saved=["p cnf 16777215 1\n-16777215 0\n",
-                                                  "p cnf 16777215 2\n-16777215 0\n-16777215 0\n"],
-                      others=formula("p cnf 16777215 1\n-16777215 0\n"))
-    yield from rounds("a variable of no formula", 3, [[""], ["5 3 -3 0 1 0\n"]],
-                      last(2, ["0 added, 0 deleted, bad line 1 (literal)"], 3), saved=[FOUR] * 2)
-    yield from rounds("the identity of the round before", 3, [ONE.texts[0], ["5 1 0 5 3 0\n"]],
-                      last(2, ["0 added, 0 deleted, bad line 1 (missing 5)"], 3),
-                      saved=[SAVED, plain(SAVED)])
-    yield from rounds("a clause that was deleted", 3, [[DERIVING + "5 d 5 0\n"], ["6 0 5 3 4 0\n"]],
-                      last(2, ["0 added, 0 deleted, bad line 1 (missing 5)"], 3), saved=[FOUR] * 2)
-    yield from rounds("clauses of the round before imported", 3,
-                      [ONE.texts[0], ["4 i 2 2 0\n1 i 2 -1 0\n"]], last(2, [NOTHING], 3),
-                      saved=[SAVED, plain(SAVED)])
+    yield rounds("a tautology", 3, [[""], ["3 2 0 2 0\n"]], last(2, [ADDED], 3),
+                 others=formula(tautology),
+                 saved=[tautology, tautology.replace("2 2", "2 3") + "2 0\n"])
+    yield rounds("the largest variable", 3, [[""], ["2 -16777215 0 1 0\n"]],
+                 last(2, [ADDED], 3), saved=["p cnf 16777215 1\n-16777215 0\n",
+                                             "p cnf 16777215 2\n-16777215 0\n-16777215 0\n"],
+                 others=formula("p cnf 16777215 1\n-16777215 0\n"))
+    yield rounds("a variable of no formula", 3, [[""], ["5 3 -3 0 1 0\n"]],
+                 last(2, ["0 added, 0 deleted, bad line 1 (literal)"], 3), saved=[FOUR] * 2)
+    yield rounds("the identity of the round before", 3, [ONE.texts[0], ["5 1 0 5 3 0\n"]],
+                 last(2, ["0 added, 0 deleted, bad line 1 (missing 5)"], 3),
+                 saved=[SAVED, plain(SAVED)])
+    yield rounds("a clause that was deleted", 3, [[DERIVING + "5 d 5 0\n"], ["6 0 5 3 4 0\n"]],
+                 last(2, ["0 added, 0 deleted, bad line 1 (missing 5)"], 3), saved=[FOUR] * 2)
+    yield rounds("clauses of the round before imported", 3,
+                 [ONE.texts[0], ["4 i 2 2 0\n1 i 2 -1 0\n"]], last(2, [NOTHING], 3),
+                 saved=[SAVED, plain(SAVED)])
     # No stream owns saved clauses: each drops them for itself.
-    yield from rounds("what one of two drops", 3, [[DERIVING, ""], ["5 d 5 0\n", ""]],
-                      last(2, ["0 added, 1 deleted, ended", NOTHING], 3), saved=[SAVED_ONE] * 2)
+    yield rounds("what one of two drops", 3, [[DERIVING, ""], ["5 d 5 0\n", ""]],
+                 last(2, ["0 added, 1 deleted, ended", NOTHING], 3), saved=[SAVED_ONE] * 2)
     seven = FOUR.replace("2 4", "2 7") + "2 0\n-2 0\n2 0\n"
-    yield from rounds(
+    yield rounds(
         "the identities of two streams", 3,
         [["5 2 0 1 2 0\n7 2 0 1 2 0\n", "6 -2 0 3 4 0\n"], ["8 2 0 5 0\n", "9 2 0 5 0\n"]],
         last(2, [ADDED] * 2, 3), saved=[seven, seven.replace("2 7", "2 9") + "2 0\n2 0\n"])
 
 
+@each_of(formulas())
+def test_formulas(program: str, way: List[str], wanted: Wanted, tmp_path: Path) -> None:
+    """Only the clauses and the header's variables are carried over; the next identities follow the
+    numbers of the checkpoint's clauses."""
+    answers(program, wanted.under(way), tmp_path)
+
+
 def assumptions() -> Iterator[Named]:
-    """Assumptions hold in each round; a round that refutes the formula under them is the
-    last."""
-    def under(name: str, cube: str, *more: Any, **most: Any) -> Iterator[Named]:
-        yield from rounds(f"under {name}", *more, options=f"{TRIES} --assume cube",
-                          others={"cube": cube}, **most)
+    def under(name: str, cube: str, status: int, texts: Texts, out: str,
+              saved: Sequence[str]) -> Named:
+        return rounds(f"under {name}", status, texts, out, saved=saved,
+                      options=f"{TRIES} --assume cube", others={"cube": cube})
 
     texts, said, saved = ONE
-    yield from under("what round 1 contradicts", "-2 0\n", 8, texts, last(1, said[0], 8),
-                     saved=saved[:1])
-    yield from under("what round 2 contradicts", "-1 0\n", 8, texts, last(2, said[1], 8),
-                     saved=saved[:2])
-    yield from under("what round 3 contradicts", "-2 0\n", 8, [[""], [""], [DERIVING], [REFUTING]],
-                     last(3, [ADDED], 8), saved=[FOUR, FOUR, SAVED_ONE])
-    yield from under("what round 2 contradicts, and the next streams aren't there", "-1 0\n", 8,
-                     texts[:2], last(2, said[1], 8), saved=saved[:2])
-    yield from under("what no round contradicts", "1 0\n", 0, texts,
-                     last(3, said[2], 0), saved=saved)
-    yield from under("what no round contradicts, unknown", "2 0\n", 3, texts[:2],
-                     last(2, said[1], 3), saved=saved[:2])
-    yield from under("none", "0\n", 0, texts, last(3, said[2], 0), saved=saved)
-    yield from under("what round 2 contradicts, with the empty clause", "-2 0\n", 0,
-                     [[""], [REFUTING]], last(2, ["2 added, 0 deleted, ended"], 0),
-                     saved=[FOUR, ""])
-    yield from under("what the second stream contradicts in round 2", "2 0\n", 8,
-                     [["", ""], ["", "6 -2 0 3 4 0\n"]], last(2, [NOTHING, ADDED], 8),
-                     saved=[FOUR, SAVED_ONE.replace("\n2 0", "\nc id 6\n-2 0")])
-    yield from under("what a round contradicts beside a bad line", "-2 0\n", 8,
-                     [["", ""], [DERIVING, BAD.replace("5", "6")]], last(2, [ADDED, BAD_SAID], 8),
-                     saved=[FOUR, SAVED_ONE])
-    yield from rounds("under a pipe of assumptions", 8, texts, last(2, said[1], 8), saved=saved[:2],
-                      options="--assume pipe", pipes={"pipe": [b"-1", b" 0\n"]})
+    yield under("what round 1 contradicts", "-2 0\n", 8, texts, last(1, said[0], 8),
+                saved=saved[:1])
+    yield under("what round 2 contradicts", "-1 0\n", 8, texts, last(2, said[1], 8),
+                saved=saved[:2])
+    yield under("what round 3 contradicts", "-2 0\n", 8, [[""], [""], [DERIVING], [REFUTING]],
+                last(3, [ADDED], 8), saved=[FOUR, FOUR, SAVED_ONE])
+    yield under("what round 2 contradicts, and the next streams aren't there", "-1 0\n", 8,
+                texts[:2], last(2, said[1], 8), saved=saved[:2])
+    yield under("what no round contradicts", "1 0\n", 0, texts,
+                last(3, said[2], 0), saved=saved)
+    yield under("what no round contradicts, unknown", "2 0\n", 3, texts[:2],
+                last(2, said[1], 3), saved=saved[:2])
+    yield under("none", "0\n", 0, texts, last(3, said[2], 0), saved=saved)
+    yield under("what round 2 contradicts, with the empty clause", "-2 0\n", 0,
+                [[""], [REFUTING]], last(2, ["2 added, 0 deleted, ended"], 0),
+                saved=[FOUR, ""])
+    yield under("what the second stream contradicts in round 2", "2 0\n", 8,
+                [["", ""], ["", "6 -2 0 3 4 0\n"]], last(2, [NOTHING, ADDED], 8),
+                saved=[FOUR, SAVED_ONE.replace("\n2 0", "\nc id 6\n-2 0")])
+    yield under("what a round contradicts beside a bad line", "-2 0\n", 8,
+                [["", ""], [DERIVING, BAD.replace("5", "6")]], last(2, [ADDED, BAD_SAID], 8),
+                saved=[FOUR, SAVED_ONE])
+    yield rounds("under a pipe of assumptions", 8, texts, last(2, said[1], 8), saved=saved[:2],
+                 options="--assume pipe", pipes={"pipe": [b"-1", b" 0\n"]})
+
+
+@each_of(assumptions())
+def test_assumptions(program: str, way: List[str], wanted: Wanted, tmp_path: Path) -> None:
+    """Assumptions hold in each round; a round that refutes the formula under them is the
+    last."""
+    answers(program, wanted.under(way), tmp_path)
 
 
 def wrong_lines() -> Iterator[Named]:
-    """The round with a wrong line is the last one, and its checkpoint is there."""
     for number in 1, 2, 3:
         before = [FOUR, *ONE.saved][number - 1]
         saved = [*ONE.saved[:number - 1], plain(before)]
         texts = [*ONE.texts[:number - 1], [BAD], *ONE.texts[number:], [BAD]]
-        yield from rounds(f"a wrong line in round {number}", 3, texts,
-                          last(number, [BAD_SAID], 3), saved=saved)
+        yield rounds(f"a wrong line in round {number}", 3, texts,
+                     last(number, [BAD_SAID], 3), saved=saved)
         texts[number - 1] = ["5 d 1 1 0\n"]
-        yield from rounds(f"a wrong deletion in round {number}", 3, texts,
-                          saved=[*saved[:-1], dropped_first(before)],
-                          out=last(number, ["0 added, 1 deleted, bad line 1 (not live 1)"], 3))
+        yield rounds(f"a wrong deletion in round {number}", 3, texts,
+                     saved=[*saved[:-1], dropped_first(before)],
+                     out=last(number, ["0 added, 1 deleted, bad line 1 (not live 1)"], 3))
         stream = stream_name(number)
-        yield from rounds(f"a folder as stream 1 of round {number}", 3, ONE.texts,
-                          last(number, [UNREAD], 3), saved=saved,
-                          do=f"rm {stream}; mkdir {stream}; ", gone=[stream])
-    yield from rounds("a wrong line in stream 2 of round 2", 3,
-                      [TWO.texts[0], ["5 d 1 0\n", "6 1 0 4 0\n"], TWO.texts[2]],
-                      last(2, ["0 added, 1 deleted, ended", BAD_SAID], 3),
-                      saved=[SAVED, plain(SAVED)])
-    yield from rounds(
+        yield rounds(f"a folder as stream 1 of round {number}", 3, ONE.texts,
+                     last(number, [UNREAD], 3), saved=saved,
+                     do=f"rm {stream}; mkdir {stream}; ", gone=[stream])
+    yield rounds("a wrong line in stream 2 of round 2", 3,
+                 [TWO.texts[0], ["5 d 1 0\n", "6 1 0 4 0\n"], TWO.texts[2]],
+                 last(2, ["0 added, 1 deleted, ended", BAD_SAID], 3),
+                 saved=[SAVED, plain(SAVED)])
+    yield rounds(
         "a folder as stream 2 of round 2", 3, TWO.texts,
         last(2, ["0 added, 1 deleted, ended", UNREAD], 3), saved=[SAVED, plain(SAVED)],
         do="rm d/round-2.stream-2; mkdir d/round-2.stream-2; ", gone=[stream_name(2, 2)])
-    yield from rounds("a wrong line beside a refutation in round 2", 0,
-                      [["", ""], [REFUTING.replace("6 0", "7 0"), BAD.replace("5", "6")],
-                       [BAD, BAD]],
-                      last(2, ["2 added, 0 deleted, ended", BAD_SAID], 0), saved=[FOUR, ""])
-    yield from rounds("a wrong line after a refutation in round 2", 0,
-                      [[""], [REFUTING + "\n"], [BAD]],
-                      last(2, ["2 added, 0 deleted, bad line 3 (spelling)"], 0), saved=[FOUR, ""])
-    yield from rounds("half a line in round 2", 3, [[""], [REFUTING[:-1]], [BAD]],
-                      saved=[FOUR, SAVED_ONE],
-                      out=last(2, ["1 added, 0 deleted, bad line 2 (truncated)"], 3))
+    yield rounds("a wrong line beside a refutation in round 2", 0,
+                 [["", ""], [REFUTING.replace("6 0", "7 0"), BAD.replace("5", "6")],
+                  [BAD, BAD]],
+                 last(2, ["2 added, 0 deleted, ended", BAD_SAID], 0), saved=[FOUR, ""])
+    yield rounds("a wrong line after a refutation in round 2", 0,
+                 [[""], [REFUTING + "\n"], [BAD]],
+                 last(2, ["2 added, 0 deleted, bad line 3 (spelling)"], 0), saved=[FOUR, ""])
+    yield rounds("half a line in round 2", 3, [[""], [REFUTING[:-1]], [BAD]],
+                 saved=[FOUR, SAVED_ONE],
+                 out=last(2, ["1 added, 0 deleted, bad line 2 (truncated)"], 3))
+
+
+@each_of(wrong_lines())
+def test_wrong_lines(program: str, way: List[str], wanted: Wanted, tmp_path: Path) -> None:
+    """The round with a wrong line is the last one, and its checkpoint is there."""
+    answers(program, wanted.under(way), tmp_path)
 
 
 # Pipes.
-
-
-def pipes() -> Iterator[Named]:
-    texts, said, saved = TWO
-    end = last(3, said[2], 0)
-    streams = {stream_name(number, stream): [text.encode()]
-               for number, round_texts in enumerate(texts, 1)
-               for stream, text in enumerate(round_texts, 1)}
-    more = {"d/round-2.sizes": [b"2 ", 0.1, b"65536 1048576", 0.1, b"\n", 0.1],
-            "d/round-3.sizes": [b"2 9 9\n"]}
-    yield from rounds("pipes", 0, texts, end, saved=saved, options=TRIES, pipes=streams)
-    yield from rounds("pipes, of sizes too", 0, texts, end, saved=saved, options=TRIES,
-                      pipes={**streams, **more})
-    in_pieces = {name: [bytes([byte]) for byte in pieces[0]] for name, pieces in streams.items()}
-    sizes_in_pieces = {"d/round-2.sizes": [bytes([byte]) for byte in b"2 65536 1048576\n"]}
-    yield from rounds("pipes, a byte at a time", 0, texts, end, saved=saved, options=TRIES,
-                      pipes={**in_pieces, **sizes_in_pieces})
-    yield from rounds("pipes of sizes, and no stream", 3, texts[:1], last(1, said[0], 3),
-                      saved=saved[:1], pipes={"d/round-2.sizes": [b"2 9 9\n"]})
-    for name, wrong in ("nothing", []), ("half", [b"2 9"]), ("too much", [b"2 9 9\n2"]):
-        yield from rounds(f"{name} in a pipe of sizes", 2, texts, err=fault(2, "sizes"),
-                          saved=saved[:1], pipes={"d/round-2.sizes": wrong})
-    # A writer comes late.
-    for name in ("d/round-2.sizes", "d/round-3.sizes",
-                 *(stream_name(number, stream) for number in (2, 3) for stream in (1, 2))):
-        gone = [] if name.endswith("sizes") else [name]
-        yield from rounds(f"{name} comes late", 0, texts, end, saved=saved, options=TRIES,
-                          do=late(name, "2 9 9"), gone=gone)
 
 
 def late(name: str, text: str, seconds: float = 0.3) -> str:
@@ -237,34 +235,67 @@ def late(name: str, text: str, seconds: float = 0.3) -> str:
             f"{seconds}; cat late > {name}) & ")
 
 
-def lay(texts: Texts, work: Path) -> None:
-    work.mkdir(exist_ok=True)
-    for name, text in round_files(texts).items():
-        written(text, work, name)
-
-
-def whole_when_opened(program: str, way: List[str], work: Path) -> None:
-    """A producer makes the pipe of a round's sizes before the previous round ends: once that pipe
-    is opened, the checkpoint is whole, and then the round's streams are made."""
+def pipes() -> Iterator[Named]:
     texts, said, saved = TWO
-    lay(texts[:1], work)
-    seen, number = [], 2
-    piped(work / "d/round-2.sizes")
-    with started([program, *SMALL_ROW, *TRIES.split(), *way, *first_words(texts)], cwd=work,
+    end = last(3, said[2], 0)
+    streams = {stream_name(number, stream): [text.encode()]
+               for number, round_texts in enumerate(texts, 1)
+               for stream, text in enumerate(round_texts, 1)}
+    more: Dict[str, Pieces] = {
+        "d/round-2.sizes": [b"2 ", 0.1, b"65536 1048576", 0.1, b"\n", 0.1],
+        "d/round-3.sizes": [b"2 9 9\n"]}
+    yield rounds("pipes", 0, texts, end, saved=saved, options=TRIES, pipes=streams)
+    yield rounds("pipes, of sizes too", 0, texts, end, saved=saved, options=TRIES,
+                 pipes={**streams, **more})
+    in_pieces = {name: [bytes([byte]) for byte in pieces[0]] for name, pieces in streams.items()}
+    sizes_in_pieces = {"d/round-2.sizes": [bytes([byte]) for byte in b"2 65536 1048576\n"]}
+    yield rounds("pipes, a byte at a time", 0, texts, end, saved=saved, options=TRIES,
+                 pipes={**in_pieces, **sizes_in_pieces})
+    yield rounds("pipes of sizes, and no stream", 3, texts[:1], last(1, said[0], 3),
+                 saved=saved[:1], pipes={"d/round-2.sizes": [b"2 9 9\n"]})
+    for name, wrong in ("nothing", ()), ("half", (b"2 9",)), ("too much", (b"2 9 9\n2",)):
+        yield rounds(f"{name} in a pipe of sizes", 2, texts, err=fault(2, "sizes"),
+                     saved=saved[:1], pipes={"d/round-2.sizes": wrong})
+    # A writer comes late.
+    for name in ("d/round-2.sizes", "d/round-3.sizes",
+                 *(stream_name(number, stream) for number in (2, 3) for stream in (1, 2))):
+        gone = [] if name.endswith("sizes") else [name]
+        yield rounds(f"{name} comes late", 0, texts, end, saved=saved, options=TRIES,
+                     do=late(name, "2 9 9"), gone=gone)
+
+
+@each_of(pipes())
+def test_pipes(program: str, way: List[str], wanted: Wanted, tmp_path: Path) -> None:
+    answers(program, wanted.under(way), tmp_path)
+
+
+def lay(texts: Texts, folder: Path) -> None:
+    """Puts the formula and the rounds' streams there."""
+    folder.mkdir(exist_ok=True)
+    for name, text in round_files(texts).items():
+        written(text, folder, name)
+
+
+def test_a_checkpoint_is_whole_once_the_next_sizes_are_opened(program: str, way: List[str],
+                                                              tmp_path: Path) -> None:
+    """A producer makes the pipe of a round's sizes before the previous round ends, and the round's
+    streams once that pipe is opened."""
+    texts, said, saved = TWO
+    lay(texts[:1], tmp_path)
+    piped(tmp_path / "d/round-2.sizes")
+    with started([program, *SMALL_ROW, *TRIES.split(), *way, *first_words(texts)], cwd=tmp_path,
                  **HEARD) as running:
         for number in 2, 3:
-            with read_from(work / f"d/round-{number}.sizes") as pipe:
-                seen.append((work / saved_name(number)).read_text())
-                want((work / saved_name(number + 1)).exists(), False,
-                     "whether the next checkpoint is there")
+            with read_from(tmp_path / f"d/round-{number}.sizes") as pipe:
+                assert (tmp_path / saved_name(number)).read_text() == saved[number - 2]
+                assert not (tmp_path / saved_name(number + 1)).exists()
                 if number == 2:
-                    piped(work / "d/round-3.sizes")
+                    piped(tmp_path / "d/round-3.sizes")
                 for stream, text in enumerate(texts[number - 1], 1):
-                    written(text, work, stream_name(number, stream))
+                    written(text, tmp_path, stream_name(number, stream))
                 pipe.write(b"2 4 4\n")
         out, err = running.communicate(timeout=LIMIT)
-    want((seen, Ran(out, err, running.returncode)), (saved[:2], Ran(last(3, said[2], 0), "", 0)),
-         "the checkpoints, and the answer")
+    assert Ran(out, err, running.returncode) == Ran(last(3, said[2], 0), "", 0)
 
 
 def rename(place: Path) -> None:
@@ -280,19 +311,21 @@ def become_folder(place: Path) -> None:
     place.mkdir()
 
 
-FORGERIES: Dict[str, Callable[[Path], None]] = {
-    "another is moved there": rename, "another is written there": overwrite,
-    "it is removed": Path.unlink, "a folder is there": become_folder}
-
-
-def forged(forge: Callable[[Path], None], at: str, program: str, way: List[str],
-           work: Path) -> None:
-    """Replacing the formulas of rounds 1 and 2 while round 2 is held back has no effect: neither on
-    a right proof, nor on one that refutes the replacement."""
+@pytest.mark.parametrize("forge", [
+    pytest.param(rename, id="another is moved there"),
+    pytest.param(overwrite, id="another is written there"),
+    pytest.param(Path.unlink, id="it is removed"),
+    pytest.param(become_folder, id="a folder is there")])
+@pytest.mark.parametrize("at", ["d/round-2.sizes", stream_name(2), stream_name(2, 2)])
+def test_replacing_a_checkpoint_has_no_effect(program: str, way: List[str], at: str,
+                                              forge: Callable[[Path], None],
+                                              tmp_path: Path) -> None:
+    """While round 2 is held back, the formulas of rounds 1 and 2 are replaced: that changes neither
+    the answer on a right proof, nor that on one that refutes the replacement."""
     unproved = ["0 added, 0 deleted, bad line 1 (not unit 1)", NOTHING]
     for texts, out, status in ((TWO.texts, last(3, TWO.said[2], 0), 0),
                                ([TWO.texts[0], [REFUTING_OTHER, ""]], last(2, unproved, 3), 3)):
-        folder = work / str(status)
+        folder = tmp_path / str(status)
         lay(texts, folder)
         held_back = folder / at
         text = held_back.read_bytes() if held_back.exists() else b"2 9 9\n"
@@ -301,61 +334,50 @@ def forged(forge: Callable[[Path], None], at: str, program: str, way: List[str],
         with started([program, *SMALL_ROW, *TRIES.split(), *way, *first_words(texts)], cwd=folder,
                      **HEARD) as running:
             with read_from(held_back) as pipe:
-                want((folder / saved_name(2)).read_text(), SAVED, "the checkpoints")
+                assert (folder / saved_name(2)).read_text() == SAVED
                 forge(folder / saved_name(2))
                 (folder / "formula").write_text(OTHER)
                 pipe.write(text)
             found, err = running.communicate(timeout=LIMIT)
-        want(Ran(found, err, running.returncode), Ran(out, "", status), "the answer")
+        assert Ran(found, err, running.returncode) == Ran(out, "", status)
 
 
-def unended_sizes(size: int, program: str, way: List[str], work: Path) -> None:
-    """A pipe of sizes that stays open after 64 bytes delays nothing, and no more of it is read."""
-    lay(ONE.texts, work)
-    with held(work / "d/round-2.sizes") as pipe:
+@pytest.mark.parametrize("size", [64, 65, 1000])
+def test_a_pipe_of_sizes_that_stays_open_delays_nothing(program: str, way: List[str], size: int,
+                                                        tmp_path: Path) -> None:
+    """No more than 64 bytes of it are read."""
+    lay(ONE.texts, tmp_path)
+    with held(tmp_path / "d/round-2.sizes") as pipe:
         pipe.write(b"1 1 1\n".ljust(size, b"\n"))
-        found = run([program, *SMALL_ROW, *way, *first_words(ONE.texts)], cwd=work)
-        left = waiting(pipe.fileno())
-    want((found, left), (Ran("", fault(2, "sizes"), 2), size - 64),
-         "the answer, and how much wasn't read")
+        found = run([program, *SMALL_ROW, *way, *first_words(ONE.texts)], cwd=tmp_path)
+        assert found == Ran("", fault(2, "sizes"), 2)
+        assert waiting(pipe.fileno()) == size - 64
 
 
-def killed(program: str, way: List[str], work: Path) -> None:
-    """A run that is killed in round 2 leaves round 1's checkpoint, and another run continues with
-    it."""
+def test_another_run_continues_where_one_was_killed(program: str, way: List[str],
+                                                    tmp_path: Path) -> None:
+    """A run that is killed in round 2 leaves round 1's checkpoint."""
     texts, said, saved = TWO
-    lay([texts[0], ["", texts[1][1]]], work)
-    (work / stream_name(2)).unlink()
+    lay([texts[0], ["", texts[1][1]]], tmp_path)
+    (tmp_path / stream_name(2)).unlink()
     words = [program, *SMALL_ROW, *TRIES.split(), *way, *first_words(texts)]
-    with held(work / stream_name(2)), started(words, cwd=work, **HEARD) as running:
-        until("the checkpoint of round 2 is created", (work / saved_name(3)).exists)
+    with held(tmp_path / stream_name(2)), started(words, cwd=tmp_path, **HEARD) as running:
+        until("the checkpoint of round 2 is created", (tmp_path / saved_name(3)).exists)
         running.kill()
-        want(running.communicate(timeout=LIMIT), ("", ""), "the output")
-    want([(work / saved_name(number)).read_text() for number in (2, 3)], [SAVED, ""],
-         "the files left")
-    lay(texts[1:], work / "next")
-    shutil.move(work / saved_name(2), work / "next/formula")
-    found = run(words, cwd=work / "next")
-    want(found, Ran(last(2, said[2], 0), "", 0), "the answer of the run that continues")
-    want((work / "next" / saved_name(2)).read_text(), saved[1], "its checkpoint")
+        assert running.communicate(timeout=LIMIT) == ("", "")
+    assert (tmp_path / saved_name(2)).read_text() == SAVED
+    assert (tmp_path / saved_name(3)).read_text() == ""
+    lay(texts[1:], tmp_path / "next")
+    shutil.move(tmp_path / saved_name(2), tmp_path / "next/formula")
+    assert run(words, cwd=tmp_path / "next") == Ran(last(2, said[2], 0), "", 0)
+    assert (tmp_path / "next" / saved_name(2)).read_text() == saved[1]
 
 
 # Reports during the run.
 
 
-def watched_rounds(texts: Texts, out: str, lines: Sequence[str], program: str, way: List[str],
-                   work: Path) -> None:
-    """With --watch, standard error has these lines; the streams of a round may end in any order."""
-    lay(texts, work)
-    found = run([program, "--watch", *SMALL_ROW, *TRIES.split(), *way, *first_words(texts)],
-                cwd=work)
-    err = re.sub(r"paused for \d+ ms$", "paused", found.err, flags=re.M)
-    want((found.out, found.status, in_any_order(err.splitlines())), (out, 0, in_any_order(lines)),
-         f"{found.err}the answer")
-
-
 def in_any_order(lines: Sequence[str]) -> List[List[str]]:
-    """The lines of each round, sorted."""
+    """The lines of each round, sorted, since the streams of a round may end in any order."""
     found: List[List[str]] = [[]]
     for line in lines:
         if line.startswith("lrupd: round "):
@@ -365,34 +387,55 @@ def in_any_order(lines: Sequence[str]) -> List[List[str]]:
     return found
 
 
-def lines_of(said: Sequence[str]) -> List[str]:
-    return [f"lrupd: stream {number}: {words}" for number, words in enumerate(said, 1)]
+@pytest.mark.parametrize("proof", [pytest.param(ONE, id="one stream"),
+                                   pytest.param(TWO, id="two streams")])
+def test_watched(program: str, way: List[str], proof: Proof, tmp_path: Path) -> None:
+    """With --watch, standard error has a line for each stream of each round, and one before each
+    round but the first. Rounds 2 and 3 have 4 clauses, with 7 and 6 literals."""
+    texts, said, _ = proof
+    lay(texts, tmp_path)
+    found = run([program, "--watch", *SMALL_ROW, *TRIES.split(), *way, *first_words(texts)],
+                cwd=tmp_path)
+    assert (found.out, found.status) == (last(3, said[2], 0), 0)
+    lines: List[str] = []
+    for number, literals in (1, 8), (2, 7), (3, 6):
+        if number > 1:
+            lines.append(f"lrupd: round {number}: 4 clauses, {literals} literals, paused")
+        lines += [f"lrupd: stream {stream}: {words}"
+                  for stream, words in enumerate(said[number - 1], 1)]
+    err = re.sub(r"paused for \d+ ms$", "paused", found.err, flags=re.M)
+    assert in_any_order(err.splitlines()) == in_any_order(lines)
 
 
-def pause(program: str, way: List[str], work: Path) -> None:
-    """With --watch, a round that is held back is reported."""
+def test_a_round_that_is_held_back_is_paused(program: str, way: List[str], tmp_path: Path) -> None:
+    """--watch says for how long each round waited for its sizes."""
     texts, said, _ = ONE
-    lay(texts, work)
-    piped(work / "d/round-2.sizes")
+    lay(texts, tmp_path)
+    piped(tmp_path / "d/round-2.sizes")
     began, held_back = time.monotonic(), 0.5
-    with started([program, "--watch", *SMALL_ROW, *way, *first_words(texts)], cwd=work,
+    with started([program, "--watch", *SMALL_ROW, *way, *first_words(texts)], cwd=tmp_path,
                  **HEARD) as running:
-        with read_from(work / "d/round-2.sizes") as pipe:
+        with read_from(tmp_path / "d/round-2.sizes") as pipe:
             time.sleep(held_back)
             pipe.write(b"1 9 9\n")
         out, err = running.communicate(timeout=LIMIT)
-    want((out, running.returncode), (last(3, said[2], 0), 0), f"{err}the answer")
-    pauses = list(map(int, re.findall(
-        r"^lrupd: round \d: 4 clauses, \d literals, paused for (\d+) ms$", err, re.M)))
     most = 1000 * (time.monotonic() - began)
-    want((len(pauses), 1000 * held_back <= pauses[0] <= most, pauses[1] <= most), (2, True, True),
-         f"{err}the pauses")
+    assert (out, running.returncode) == (last(3, said[2], 0), 0)
+    second, third = map(int, re.findall(
+        r"^lrupd: round \d: 4 clauses, \d literals, paused for (\d+) ms$", err, re.M))
+    assert 1000 * held_back <= second <= most
+    assert third <= most
 
 
 # Many rounds.
 
 
-def many(count: int, limits: str, options: str, program: str, way: List[str], work: Path) -> None:
+@pytest.mark.parametrize("count, limits, options", [
+    pytest.param(200, "ulimit -n 32", "", id="200 rounds, few files"),
+    pytest.param(20, "ulimit -s 8192 && ulimit -v 1000000", "--room 16000000",
+                 id="20 rounds, little memory")])
+def test_many_rounds(program: str, way: List[str], count: int, limits: str, options: str,
+                     tmp_path: Path) -> None:
     """The formula says that x1 holds, that each variable implies the next, and that the last
     doesn't hold: round R derives the next variable, and drops what it used. No file stays open, and
     no memory is kept; otherwise the limits would suffice for only a few rounds."""
@@ -407,43 +450,10 @@ def many(count: int, limits: str, options: str, program: str, way: List[str], wo
     texts.append(["3 0 2 1 0\n"])
     formula = dimacs(count,
                      [*([-variable, variable + 1] for variable in range(1, count)), [-count], [1]])
-    lay(texts, work)
-    written(formula, work, "formula")
+    lay(texts, tmp_path)
+    written(formula, tmp_path, "formula")
     words = [*way, *small(options.split()), *first_words(texts)]
-    found = answered(program, Wanted(words, 0, shell=f'{limits} && exec "$@"'), work)
-    want(found, Ran(last(count, [ADDED], 0), "", 0), "the answer")
-    left = [(work / saved_name(number)).read_text() for number in range(2, count + 2)]
-    want(left, [*saved, ""], "the checkpoints")
-
-
-def special_rows(way: List[str]) -> Iterator[Row]:
-    """Rows that aren't in tables; their functions also get the program and `way`."""
-    yield "a producer", whole_when_opened
-    for name, forge in FORGERIES.items():
-        for at in "d/round-2.sizes", stream_name(2), stream_name(2, 2):
-            yield f"held back at {at}, and {name}", forged, forge, at
-    yield "killed", killed
-    for size in 64, 65, 1000:
-        yield f"{size} bytes of sizes in a pipe that stays open", unended_sizes, size
-    for proof, literals in (ONE, (7, 6)), (TWO, (7, 6)):
-        lines = [f"lrupd: round {number}: 4 clauses, {count} literals, paused"
-                 for number, count in zip((2, 3), literals)]
-        texts, said, _ = proof
-        yield (f"watched, {len(texts[0])}", watched_rounds, texts, last(3, said[2], 0),
-               [*lines_of(said[0]), lines[0], *lines_of(said[1]), lines[1], *lines_of(said[2])])
-    yield "paused", pause
-    yield "200 rounds", many, 200, "ulimit -n 32", ""
-    yield ("20 rounds in little memory", many, 20, "ulimit -s 8192 && ulimit -v 1000000",
-           "--room 16000000")
-
-
-def rows(program: str) -> Iterator[Row]:
-    for table in ends, places, formulas, assumptions, wrong_lines, pipes:
-        for name, wanted in table():
-            yield name, answers, program, wanted
-    for way in WAYS:
-        for name, *row in special_rows(way.split()):
-            yield (f"{name} {way}", *row, program, way.split())
-
-
-test_row = parametrized(rows(PROGRAM))
+    found = answered(program, Wanted(words, 0, shell=f'{limits} && exec "$@"'), tmp_path)
+    assert found == Ran(last(count, [ADDED], 0), "", 0)
+    for number, text in enumerate([*saved, ""], 2):
+        assert (tmp_path / saved_name(number)).read_text() == text

@@ -1,6 +1,6 @@
-"""Runs the program with --rounds, and each of these rounds separately, with --checkpoint, on the
-checkpoint of the round before: the report has to be the last separate run's, and each checkpoint
-has to have the same bytes.
+"""lrupd --rounds, compared with a run of each round alone, with --checkpoint, on the checkpoint of
+the round before: the report has to be the last of these runs', and each checkpoint has to have the
+same bytes.
 
 Recorded streams are cut into rounds, and random streams are written round by round, with some wrong
 lines."""
@@ -8,10 +8,11 @@ import random
 import shutil
 import sys
 from pathlib import Path
-from typing import Iterator, List, NamedTuple, Optional, Sequence, Tuple
+from typing import Any, Iterator, List, NamedTuple, Optional, Sequence, Tuple
 
-from harness import (EXAMPLES, PROGRAM, Ran, Row, dimacs, enough_for, example, parametrized,
-                     random_clauses, run, want, written)
+import pytest
+
+from harness import EXAMPLES, Ran, dimacs, enough_for, example, random_clauses, run, written
 from proof_forms import Clause, read_formula
 from rounds import first_words, saved_name, stream_name
 
@@ -23,7 +24,6 @@ RECORDED = [("four-clause.cnf", ["four-clause.lrup"], (1, 2)),
             ("pigeonhole.cnf", ["pigeonhole-two.1", "pigeonhole-two.2"], (3,)),
             ("bmc.cnf", [f"bmc-four.{number}" for number in range(1, 5)], (2, 7)),
             ("two-groups.cnf", [f"two-groups.{number}" for number in range(1, 5)], (3,))]
-SEEDS = 60
 
 
 class Sizes(NamedTuple):
@@ -42,48 +42,56 @@ class Alone(NamedTuple):
     saved: List[bytes]
 
 
-def round_alone(program: str, options: Sequence[object], number: int, streams: int, work: Path,
+def round_alone(program: str, options: Sequence[object], number: int, streams: int, folder: Path,
                 alone: Alone) -> bool:
     """Runs one round; returns whether another round would follow."""
-    formula = work / (f"alone-{number}" if number > 1 else "formula")
-    saved = work / f"alone-{number + 1}"
-    words = [work / stream_name(number, stream) for stream in range(1, streams + 1)]
+    formula = folder / (f"alone-{number}" if number > 1 else "formula")
+    saved = folder / f"alone-{number + 1}"
+    words = [folder / stream_name(number, stream) for stream in range(1, streams + 1)]
     answer = run([program, *options, "--checkpoint", saved, formula, *words])
-    want((answer.err, answer.status in (0, 3, 8)), ("", True),
-         f"{answer}: what round {number} alone says")
+    assert answer.err == ""
+    assert answer.status in (0, 3, 8)
     alone.answers.append(answer)
     alone.saved.append(saved.read_bytes())
     return answer.status == 3 and answer.out.count(", ended\n") == streams
 
 
-def want_same(program: str, options: Sequence[object], streams: int, work: Path,
+def want_same(program: str, options: Sequence[object], streams: int, folder: Path,
               alone: Alone) -> None:
-    """Compares a run in rounds, over the streams in the folder d, with the runs of single rounds
-    in `alone`."""
-    found, count = (run([program, *options, *first_words([[""] * streams])], cwd=work),
-                    len(alone.answers))
-    last = alone.answers[-1]
-    want(found, last._replace(out=f"c round {count}\n" * (count > 1) + last.out), "the answer")
-    saved = [(work / saved_name(number)).read_bytes() for number in range(2, count + 2)]
-    want([left == right for left, right in zip(saved, alone.saved)], [True] * count,
-         "which checkpoints are the same")
-    want((work / saved_name(count + 2)).exists(), False, "whether there is another checkpoint")
+    """A run in rounds, over the streams in the folder d, does the same as the runs of single
+    rounds."""
+    found = run([program, *options, *first_words([[""] * streams])], cwd=folder)
+    count, last = len(alone.answers), alone.answers[-1]
+    assert found == last._replace(out=f"c round {count}\n" * (count > 1) + last.out)
+    for number, saved in enumerate(alone.saved, 2):
+        assert (folder / saved_name(number)).read_bytes() == saved
+    assert not (folder / saved_name(count + 2)).exists()
 
 
-def recorded(formula: Path, names: Sequence[str], count: int, program: str, way: List[str],
-             work: Path) -> None:
-    cut = run([sys.executable, EXAMPLES / "chain.py", count, formula, work / "d",
+def recorded() -> Iterator[Any]:
+    """With --serial only one stream: several cite each other's lines before their turn."""
+    for formula, names, counts in RECORDED:
+        for way in WAYS if len(names) == 1 else WAYS[:1]:
+            for count in counts:
+                yield pytest.param(way, formula, names, count,
+                                   id=" ".join([names[0], *way, f"in {count} rounds"]))
+
+
+@pytest.mark.parametrize("way, formula, names, count", recorded())
+def test_recorded(program: str, way: List[str], formula: str, names: Sequence[str], count: int,
+                  tmp_path: Path) -> None:
+    cut = run([sys.executable, EXAMPLES / "chain.py", count, example(formula), tmp_path / "d",
                *map(example, names)])
-    want(cut, Ran("", "", 0), "chain.py's output")
-    for path in (work / "d").glob("*.sizes"):
+    assert cut == Ran("", "", 0)
+    for path in (tmp_path / "d").glob("*.sizes"):
         path.unlink()
-    shutil.copy(formula, work / "formula")
+    shutil.copy(example(formula), tmp_path / "formula")
     options, alone = [*TRIES, *way, *enough_for(map(example, names))], Alone([], [])
-    went_on = [round_alone(program, options, number, len(names), work, alone)
+    went_on = [round_alone(program, options, number, len(names), tmp_path, alone)
                for number in range(1, count + 1)]
-    want((went_on, alone.answers[-1].status), ([True] * (count - 1) + [False], 0),
-         "which rounds are followed, and the last status")
-    want_same(program, options, len(names), work, alone)
+    assert went_on == [True] * (count - 1) + [False]
+    assert alone.answers[-1].status == 0
+    want_same(program, options, len(names), tmp_path, alone)
 
 
 # Random rounds.
@@ -109,7 +117,7 @@ class Writer:
             if len(clashes) == 1:
                 found.append((sorted({*left, *right} - {clashes[0], -clashes[0]}, key=abs),
                               [first, second]))
-        return min(found[:12], key=lambda step: len(step[0]), default=None)
+        return min(found[:12], key=lambda step: len(step[0])) if found else None
 
     def add(self, literals: Clause, hints: List[int]) -> None:
         self.lines.append(" ".join(map(str, [self.next, *literals, 0, *hints, 0])))
@@ -146,44 +154,31 @@ class Writer:
         return "".join(line + "\n" for line in self.lines if " i 0" not in line)
 
 
-def random_rounds(seed: int, program: str, way: List[str], work: Path) -> None:
+@pytest.mark.seeds(60)
+def test_random(program: str, way: List[str], seed: int, tmp_path: Path) -> None:
     """Up to eight rounds of one to three streams, with sizes that suffice or don't; some under
     assumptions."""
     numbers, alone = random.Random(seed), Alone([], [])
     variables = numbers.randint(3, 7)
     clauses = random_clauses(numbers, variables,
                              numbers.randint(3 * variables, 5 * variables), (2, 3, 3))
-    written(dimacs(variables, clauses), work, "formula")
-    written(f"{numbers.choice((-1, 1)) * numbers.randint(1, variables)} 0\n", work, "cube")
-    options: List[object] = [*way, *numbers.choice(([], [], ["--assume", work / "cube"]))]
+    written(dimacs(variables, clauses), tmp_path, "formula")
+    written(f"{numbers.choice((-1, 1)) * numbers.randint(1, variables)} 0\n", tmp_path, "cube")
+    options: List[object] = [*way, *numbers.choice(((), (), ("--assume", tmp_path / "cube")))]
     sizes = Sizes(numbers.randint(1, 3), 100, 1000)
     first = sizes
     for number in range(1, numbers.randint(2, 9)):
         if number > 1 and numbers.random() < 0.4:
             sizes = Sizes(numbers.randint(1, 3), numbers.choice((100, 100, 100, 9)),
                           numbers.choice((1000, 1000, 1000, 9)))
-            written("{} {} {}\n".format(*sizes), work, f"d/round-{number}.sizes")
-        formula = read_formula(work / (f"alone-{number}" if number > 1 else "formula"))
+            written("{} {} {}\n".format(*sizes), tmp_path, f"d/round-{number}.sizes")
+        formula = read_formula(tmp_path / (f"alone-{number}" if number > 1 else "formula"))
         for stream in range(1, sizes.streams + 1):
             writer = Writer(numbers, formula, stream, sizes.streams)
-            written(writer.text(numbers.randint(0, 20) if formula else 0), work,
+            written(writer.text(numbers.randint(0, 20) if formula else 0), tmp_path,
                     stream_name(number, stream))
         if not round_alone(program, [*options, *options_of(sizes)], number,
-                           sizes.streams, work, alone):
-            written("\n", work, stream_name(number + 1))
+                           sizes.streams, tmp_path, alone):
+            written("\n", tmp_path, stream_name(number + 1))
             break
-    want_same(program, [*options, *options_of(first)], first.streams, work, alone)
-
-
-def rows(program: str) -> Iterator[Row]:
-    for way in WAYS:
-        kind = "".join(" " + word for word in way)
-        for formula, names, counts in RECORDED:
-            for count in counts if not way or len(names) == 1 else ():
-                yield (f"{names[0]} in {count} rounds{kind}", recorded, example(formula), names,
-                       count, program, way)
-        for seed in range(SEEDS):
-            yield f"random rounds, {seed}{kind}", random_rounds, seed, program, way
-
-
-test_row = parametrized(rows(PROGRAM))
+    want_same(program, [*options, *options_of(first)], first.streams, tmp_path, alone)

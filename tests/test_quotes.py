@@ -1,6 +1,4 @@
-"""Runs gate/quotes.py on wrong pages.
-
-In a copy of the pages, each row replaces a text."""
+"""gate/quotes.py, which checks the pages' quotations of definitions, on wrong pages."""
 import contextlib
 import io
 import shutil
@@ -8,12 +6,13 @@ import sys
 from pathlib import Path
 from typing import List
 
-from harness import ROOT, Ran, Row, parametrized, want
+import pytest
+
+from harness import ROOT, Ran
 
 sys.path.append(str(ROOT / "gate"))
 import quotes
 
-PAGE = "AUDIT.md"
 COMMENT, TYPE = ("-- no assignment satisfies all clauses of the formula\n",
                  "IsUnsatisfiable : Cnf → Type 0\n")
 MEANS = (
@@ -25,55 +24,77 @@ FILE = "](../crates/lrup_model/specs/Entailment.antt)\n\n```agda\n" + WHOLE
 
 def checked(words: List[str], folder: Path) -> Ran:
     """The answer of quotes.py on the pages in this folder. The sources are read once for all
-    rows."""
-    out, err, status = io.StringIO(), io.StringIO(), None
+    tests."""
+    out, err = io.StringIO(), io.StringIO()
     with contextlib.redirect_stdout(out), contextlib.redirect_stderr(err):
-        try:
+        with pytest.raises(SystemExit) as end:
             quotes.main(words, folder)
-        except SystemExit as end:
-            status = int(end.code or 0)
-    return Ran(out.getvalue(), err.getvalue(), status)
+    return Ran(out.getvalue(), err.getvalue(), int(end.value.code or 0))
 
 
-def refused(old: str, new: str, said: List[str], work: Path) -> None:
-    """--write corrects quotes that differ, but nothing else."""
-    page = Path(shutil.copytree(quotes.DOCS, work / "docs")) / PAGE
+DIFFERS = ["IsUnsatisfiable differs from crates/lrup_model/specs/Entailment.antt",
+           "run make quotes"]
+
+
+def want_said(name: str, old: str, new: str, said: List[str], folder: Path) -> None:
+    """In a copy of the pages, this text is replaced on a page: these words are said, or nothing is
+    wrong if there are none. --write corrects quotes that differ, but nothing else."""
+    page = Path(shutil.copytree(quotes.DOCS, folder / "docs")) / name
     before = page.read_text()
-    want(before.count(old), 1, f"how many times {PAGE} has '{old}'")
+    assert before.count(old) == 1
     page.write_text(before.replace(old, new))
     done = checked([], page.parent)
-    want((done.err, done.status), ("", 1 if said else 0),
-         f"standard error and status, with {done.out}")
-    want([text for text in said if text not in done.out], [], f"what isn't said in {done.out}")
+    assert (done.err, done.status) == ("", 1 if said else 0)
+    for text in said:
+        assert text in done.out
     mended = checked(["--write"], page.parent)
     is_put_right = not said or "run make quotes" in said
-    wanted = (0, True) if is_put_right else (1, False)
-    want((mended.status, page.read_text() == before), wanted,
-         f"what --write leaves, and says: {mended.out}")
+    assert mended.status == (0 if is_put_right else 1), mended.out
+    assert (page.read_text() == before) == is_put_right
 
 
-def rows() -> List[Row]:
-    differs = ["IsUnsatisfiable differs from crates/lrup_model/specs/Entailment.antt",
-               "run make quotes"]
-    return [("as it is", refused, WHOLE, WHOLE, []),
-            ("one word changed", refused, MEANS, MEANS.replace("formula → ⊥", "formula"), differs),
-            ("a comment changed", refused, COMMENT, COMMENT.replace("all", "some"), differs),
-            ("a definition left out", refused, "\n```agda\n" + WHOLE + "```\n", "",
-             ["IsUnsatisfiable, which no page quotes"]),
-            ("a definition that nothing reaches", refused, WHOLE, ANOTHER + WHOLE,
-             ["no statement reaches negation"]),
-            ("a definition twice", refused, WHOLE, WHOLE + "\n" + WHOLE,
-             ["IsUnsatisfiable is quoted at docs/AUDIT.md"]),
-            ("a wrong file", refused, FILE, FILE.replace("Entailment", "Clause"),
-             ["crates/lrup_model/specs/Clause.antt doesn't declare IsUnsatisfiable: "
-              "crates/lrup_model/specs/Entailment.antt has"]),
-            ("a wrong link", refused, "[`plain_words`](../crates/command_line/",
-             "[`plain_words`](../crates/dimacs/",
-             ["the link of plain_words leads to ../crates/dimacs/src/laws.rt"]),
-            ("a wrong count", refused, "uses 31 definitions", "uses 30 definitions",
-             ["its contracts 'use 31 definitions'"]),
-            ("a wrong clause", refused, "result ≡ 0 → Name", "result ≡ 3 → Name",
-             ["doesn't have 'result ≡ 3"])]
+@pytest.mark.parametrize("old, new, said", [
+    pytest.param(WHOLE, WHOLE, [], id="as it is"),
+    pytest.param(MEANS, MEANS.replace("formula → ⊥", "formula"), DIFFERS, id="one word changed"),
+    pytest.param(COMMENT, COMMENT.replace("all", "some"), DIFFERS, id="a comment changed"),
+    pytest.param("\n```agda\n" + WHOLE + "```\n", "", ["IsUnsatisfiable, which no page quotes"],
+                 id="a definition left out"),
+    pytest.param(WHOLE, ANOTHER + WHOLE, ["no statement reaches negation"],
+                 id="a definition that nothing reaches"),
+    pytest.param(WHOLE, WHOLE + "\n" + WHOLE, ["IsUnsatisfiable is quoted at docs/AUDIT.md"],
+                 id="a definition twice"),
+    pytest.param(FILE, FILE.replace("Entailment", "Clause"),
+                 ["crates/lrup_model/specs/Clause.antt doesn't declare IsUnsatisfiable: "
+                  "crates/lrup_model/specs/Entailment.antt has"],
+                 id="a wrong file"),
+    pytest.param("[`plain_words`](../crates/command_line/", "[`plain_words`](../crates/dimacs/",
+                 ["the link of plain_words leads to crates/dimacs/src/laws.rt"], id="a wrong link"),
+    pytest.param("uses 31 definitions", "uses 30 definitions",
+                 ["its contracts 'use 31 definitions'"], id="a wrong count"),
+    pytest.param("result ≡ 0 → Name", "result ≡ 3 → Name", ["doesn't have 'result ≡ 3"],
+                 id="a wrong clause"),
+    pytest.param("[`is_set`](../crates/command_line/specs/CommandLine.antt),\n", "",
+                 ["IsSaidBy names is_set, which no page quotes"],
+                 id="a definition neither quoted nor named")])
+def test_audit(old: str, new: str, said: List[str], tmp_path: Path) -> None:
+    want_said("AUDIT.md", old, new, said, tmp_path)
 
 
-test_row = parametrized(rows())
+@pytest.mark.parametrize("old, new, said", [
+    pytest.param("- [`Spelling`](../crates/idwords/specs/", "- Spelling (",
+                 ["Calls names LieWithin, which no page quotes"], id="a file that isn't listed"),
+    pytest.param("- [`Spelling`]",
+                 "- [`Turns`](../crates/run_laws/specs/TurnsLaws.antt): turns.\n- [`Spelling`]",
+                 ["no statement reaches crates/run_laws/specs/TurnsLaws.antt"],
+                 id="a file that nothing reaches"),
+    pytest.param("(`pass_caller_view`)", "",
+                 ["pass_caller_view names pass_caller_view, which no page quotes"],
+                 id="a name that isn't listed"),
+    pytest.param(" (`Fetched`)", "", ["names Fetched, which no page quotes"],
+                 id="a type that isn't listed"),
+    pytest.param("(`clip_clause`, ", "(`clip_clauses`, ",
+                 ["the link of clip_clauses leads to crates/lrup_model/specs/CallerView.antt"],
+                 id="a name of another file")])
+def test_a_page_that_lists_the_files_of_its_definitions(old: str, new: str, said: List[str],
+                                                        tmp_path: Path) -> None:
+    want_said("STORE_CALLS.md", old, new, said, tmp_path)

@@ -1,11 +1,11 @@
-"""Runs the commands that pages show, in order, with one shell and one folder for each page.
+"""The commands that pages show, run in order, with one shell and one folder for each page; and the
+examples' scripts with wrong arguments, files and answers.
 
 A command comes after '$ ' in a block that is indented by four spaces or more. If its line ends with
 a backslash, a bar or '&&', it continues on the next one. The text below it is the expected output,
 including standard error: a line '..' stands for any lines, and in a line with lrup-solve's times,
 each number stands for any other. If there is no text, any output is fine. Some commands aren't run,
-since they would prove the program: see NOT_RUN. Then the examples' scripts get wrong arguments,
-files and answers."""
+since they would prove the program: see NOT_RUN."""
 import os
 import re
 import shutil
@@ -13,15 +13,17 @@ import subprocess
 from pathlib import Path
 from typing import Iterator, List, Mapping, NamedTuple, Sequence, Tuple
 
-from harness import (EXAMPLES, EXPLAIN, FILTER, LRUP_CHAIN, ROOT, TRIM, Row, generated, lacking,
-                     needs, parametrized, run, want, written)
-from solving import LRUP_SOLVE, PROGRAM, SOLVE
+import pytest
+
+from harness import (EXAMPLES, EXPLAIN, FILTER, LRUP_RECHECK, ROOT, TRIM, Ran, generated, lacking,
+                     needs, run, written)
+from solving import SOLVE
 
 LIMIT = 120  # seconds for a page
 NOT_RUN = ["make try", "make test", "make install PREFIX=$HOME/.local"]
-# The files in a page's folder besides the examples: copies and generated formulas; and the packages
-# that the page's commands need.
-PAGES: List[Tuple[str, Sequence[str], Sequence[str]]] = [
+# Each page, with the files in its folder besides the examples, which are copies and generated
+# formulas; and with the packages that its commands need.
+PAGES: List[Tuple[str, List[str], List[str]]] = [
     ("README.md", ["random 150 1 > formula.cnf"], ["cadical"]),
     ("docs/USING.md", ["random 150 1 > formula.cnf"], ["cadical", "cryptominisat5"]),
     ("docs/EMITTING.md", ["examples/bmc.cnf > formula.cnf", "examples/bmc.lrup > proof"], []),
@@ -79,7 +81,11 @@ def is_timed(line: str) -> bool:
     return re.match(r"c [\d,.]+ s, .* of processor time", line) is not None
 
 
-def shown(name: str, files: Sequence[str], packages: Sequence[str], work: Path) -> None:
+@pytest.mark.usefixtures("lrup_solve")
+@pytest.mark.parametrize("name, files, packages", [pytest.param(*page, id=page[0])
+                                                   for page in PAGES])
+def test_page(program: str, model: str, name: str, files: Sequence[str], packages: Sequence[str],
+              tmp_path: Path) -> None:
     """The page's commands print what the page shows."""
     for package in packages:
         if package != "python3-z3":
@@ -89,77 +95,111 @@ def shown(name: str, files: Sequence[str], packages: Sequence[str], work: Path) 
     for file in files:
         words, _, place = file.partition(" > ")
         if words.startswith("examples/"):
-            shutil.copy(ROOT / words, work / place)
+            shutil.copy(ROOT / words, tmp_path / place)
         else:
-            generated(words, work, place)
-    os.symlink(EXAMPLES, work / "examples")
-    (work / "bin").mkdir()
-    for title, path in PROGRAMS.items():
-        os.symlink(path, work / "bin" / title)
+            generated(words, tmp_path, place)
+    os.symlink(EXAMPLES, tmp_path / "examples")
+    (tmp_path / "bin").mkdir()
+    for path in [SOLVE, SOLVE.with_name("lrup-check"), FILTER, TRIM, EXPLAIN, LRUP_RECHECK]:
+        os.symlink(path, tmp_path / "bin" / path.name)
+    os.symlink(program, tmp_path / "bin" / "lrupd")
+    os.symlink(model, tmp_path / "bin" / "lrup-model")
     commands = [command for command in commands_of(ROOT / name) if command.text not in NOT_RUN]
     script = "exec 2>&1\n" + "".join(f"{command.text}\nprintf '\\n-- %s\\n' {number}\n"
                                      for number, command in enumerate(commands))
-    surroundings = {**os.environ, "PATH": f"{work / 'bin'}:{os.environ['PATH']}"}
-    done = run(["bash", "-c", script], limit=LIMIT, cwd=work, env=surroundings,
+    surroundings = {**os.environ, "PATH": f"{tmp_path / 'bin'}:{os.environ['PATH']}"}
+    done = run(["bash", "-c", script], limit=LIMIT, cwd=tmp_path, env=surroundings,
                stderr=subprocess.STDOUT)
     pieces = re.split(r"\n-- \d+\n", done.out)
-    assert len(pieces) == len(commands) + 1, (
-        f"{len(pieces) - 1} commands of {len(commands)} ended:\n{done.out[-2000:]}")
+    assert len(pieces) == len(commands) + 1, done.out
     for command, said in zip(commands, pieces):
-        if command.wanted and not re.fullmatch(
-                pattern(command.wanted), said + "\n" * (said != "" and not said.endswith("\n"))):
-            wanted = "\n".join(command.wanted)
-            raise AssertionError(f"line {command.line}, $ {command.text}: expected\n{wanted}\n"
-                                 f"but found\n{said[:2000]}")
+        said += "\n" * (said != "" and not said.endswith("\n"))
+        if command.wanted and not re.fullmatch(pattern(command.wanted), said):
+            shown = "".join(f"{line}\n" for line in command.wanted)
+            assert said == shown, f"line {command.line}, $ {command.text}"
 
 
-PROGRAMS = {"lrupd": Path(PROGRAM), "lrup-solve": SOLVE,
-            "lrup-check": SOLVE.with_name("lrup-check"), "lrup-exact": FILTER, "lrup-trim": TRIM,
-            "lrup-explain": EXPLAIN, "lrup-chain": LRUP_CHAIN}
-
-
-def all_known() -> List[Row]:
-    """Each command in NOT_RUN has to be on a page."""
-    texts = {command.text for name, *_ in PAGES for command in commands_of(ROOT / name)}
-    return [(f"not run: {text}", unknown, text) for text in NOT_RUN if text not in texts]
-
-
-def unknown(text: str, work: Path) -> None:
-    raise AssertionError(f"no page shows {text}")
+@pytest.mark.parametrize("text", NOT_RUN)
+def test_a_command_that_is_not_run_is_on_a_page(text: str) -> None:
+    assert text in [command.text for name, *_ in PAGES for command in commands_of(ROOT / name)]
 
 
 # Scripts of examples with wrong input: one line on standard error, and nothing on standard output.
 
+DOMAIN, PROBLEM = (str(EXAMPLES / "planning" / name)
+                   for name in ("gripper.pddl", "four-balls.pddl"))
+USAGES: List[Tuple[str, str, List[List[str]]]] = [
+    ("smt/smt2cnf.py", "smt2cnf.py PROBLEM.smt2 > FORMULA.cnf", [[], ["one", "two"]]),
+    ("lemma/lemma.py", "lemma.py WIDTH LEMMA",
+     [[], ["8"], ["0", "a <= b"], ["x", "a <= b"], ["8", "a <= b", "c"]]),
+    ("show.awk", "show.awk FORMULA ANSWER|CORE",
+     [[], ["formula.cnf"], ["formula.cnf", "answer", "more"]]),
+    ("acl2.py", "acl2.py [--stobj] FORMULA PROOF",
+     [[], ["--stobj", "f"], ["f"], ["f", "p", "x"]]),
+    ("miter/miter.sh", "miter.sh FILE.v FORMULA", [[], ["x.v"]]),
+    ("fifo/bmc.sh", "bmc.sh [--induction] FILE.v DEPTH FORMULA, with 2 or more steps for DEPTH",
+     [[], ["x.v", "5"], ["x.v", "x", "f"], ["x.v", "", "f"], ["x.v", "0", "f"],
+      ["x.v", "5", "f", "g"], ["x.v", "-5", "f"], ["x.v", "1", "f"], ["--induction", "x.v", "5"],
+      ["--induction", "x.v", "1", "f"]]),
+    ("cubes/waerden.py", "waerden.py K L N, with 2 or more for K and L",
+     [[], ["3", "3"], ["3", "1", "9"], ["3", "x", "9"]]),
+    ("cubes/split.py", "split.py COUNT FORMULA",
+     [[], ["5"], ["x", "formula.cnf"], ["5", "a", "b"]]),
+    ("planning/plan.py", "plan.py DOMAIN PROBLEM STEPS",
+     [[], [DOMAIN, PROBLEM], [DOMAIN, PROBLEM, "x"], [DOMAIN, PROBLEM, "-1"],
+      [DOMAIN, PROBLEM, "1", "2"]])]
 
-def refused(script: str, words: Sequence[str], given: bytes, said: str, status: int,
-            work: Path) -> None:
-    done = run([EXAMPLES / script, *words], given, cwd=work)
-    want((done.out, done.err, done.status), ("", f"{said}\n", status), f"the message on {words}")
+
+@pytest.mark.parametrize("script, usage, words", [
+    pytest.param(script, usage, words, id=" ".join(Path(word).name for word in [script, *words]))
+    for script, usage, every in USAGES for words in every])
+def test_usage(script: str, usage: str, words: Sequence[str], tmp_path: Path) -> None:
+    done = run([EXAMPLES / script, *words], b"", cwd=tmp_path)
+    assert done == Ran("", f"usage: {usage}\n", 2)
+
+
+def want_refused(script: str, words: Sequence[object], said: str, folder: Path,
+                 given: bytes = b"", files: Mapping[str, str] = {}) -> None:
+    """In a folder with these files, the script says this."""
+    for name, text in files.items():
+        written(text, folder, name)
+    done = run([EXAMPLES / script, *words], given, cwd=folder)
+    assert done == Ran("", f"{Path(script).name}: {said}\n", 1)
 
 
 # Answers that aren't ones to a satisfiable formula; one is too short for its formula, and one has
 # both values of each variable.
-NO_ANSWERS = (b"s UNSATISFIABLE\n", b"", b"c time is up\ns UNKNOWN\n", b"\0garbage\n\377",
-              b"s SATISFIABLE\nv 1 2 0\n", b"s UNKNOWN\nv 1 2 -3 -4 -5 6 -7 0\n",
-              b"s SATISFIABLE\nv 1 -1 2 -2 3 -3 4 -4 5 -5 6 -6 7 -7 0\n")
+@pytest.mark.parametrize("answer", [
+    b"s UNSATISFIABLE\n", b"", b"c time is up\ns UNKNOWN\n", b"\0garbage\n\377",
+    b"s SATISFIABLE\nv 1 2 0\n", b"s UNKNOWN\nv 1 2 -3 -4 -5 6 -7 0\n",
+    b"s SATISFIABLE\nv 1 -1 2 -2 3 -3 4 -4 5 -5 6 -6 7 -7 0\n"])
+def test_show_refuses_an_answer(answer: bytes, tmp_path: Path) -> None:
+    formula = written("p cnf 7 2\nc a[0] 1\n3 -4 0\n5 -1 0\n", tmp_path)
+    want_refused("show.awk", [formula, "-"],
+                 "the answer isn't s SATISFIABLE with an assignment of this formula", tmp_path,
+                 answer)
 
 
-def not_shown(text: str, given: bytes, said: str, work: Path) -> None:
-    """show.awk refuses this formula or answer."""
-    formula = written(text, work)
-    refused("show.awk", [str(formula), "-"], given, f"show.awk: {said}", 1, work)
+@pytest.mark.parametrize("text", [
+    "p cnf 2 1\n1 2 0\n", "c generated from Yosys RTL\np cnf 2 1\n1 2 0\n", ""])
+def test_show_refuses_a_formula(text: str, tmp_path: Path) -> None:
+    want_refused("show.awk", [written(text, tmp_path), "-"],
+                 "the formula has no comments 'c NAME LITERAL'", tmp_path,
+                 b"s SATISFIABLE\nv 1 2 0\n")
 
 
-def refused_with_files(script: str, words: Sequence[str], files: Mapping[str, str], said: str,
-                       work: Path) -> None:
-    for name, text in files.items():
-        written(text, work, name)
-    refused(script, words, b"", said, 1, work)
+@pytest.mark.parametrize("formula, cause", [
+    ("none", "[Errno 2] No such file or directory: 'none'"), ("/dev/null", "no header")])
+def test_acl2_refuses_a_formula(formula: str, cause: str, tmp_path: Path) -> None:
+    want_refused("acl2.py", [formula, "none"], f"FORMULA or PROOF can't be read: {cause}", tmp_path)
 
 
-# Problems that smt2cnf.py refuses, and why: Z3's bit-blaster would leave something out.
+# Problems of SMT-LIB.
+
 WORD, TRUTH = "(declare-const x (_ BitVec 8))", "(declare-const p Bool)"
-SMT = [
+
+
+@pytest.mark.parametrize("text, said", [
     (f"{TRUTH}(push)(assert p)(check-sat)", "'push' isn't supported"),
     (f"{TRUTH}(; a comment\npush 1)(assert p)(pop 1)", "'push' isn't supported"),
     (f"{TRUTH}(check-sat-assuming (p))", "'check-sat-assuming' isn't supported"),
@@ -182,39 +222,25 @@ SMT = [
     (f"{TRUTH}(declare-const q Bool)(assert ((_ at-most 1) p q))(check-sat)",
      "not a problem of QF_BV"),
     ("(assert nothing)",
-     '(error "line 1 column 9: unknown constant nothing")'),
-]
+     '(error "line 1 column 9: unknown constant nothing")')])
+def test_smt2cnf_refuses_a_problem(text: str, said: str, tmp_path: Path) -> None:
+    """Z3's bit-blaster would leave something out."""
+    want_refused("smt/smt2cnf.py", ["p.smt2"], f"p.smt2: {said}", tmp_path, files={"p.smt2": text})
 
 
-def smt_problems() -> Iterator[Row]:
-    script = "smt/smt2cnf.py"
-    for text, said in SMT:
-        yield (f"smt2cnf.py, {text}", refused_with_files, script, ["p.smt2"], {"p.smt2": text},
-               f"smt2cnf.py: p.smt2: {said}")
-    for words in ([], ["one", "two"]):
-        yield (f"smt2cnf.py {words}", refused, script, words, b"",
-               "usage: smt2cnf.py PROBLEM.smt2 > FORMULA.cnf", 2)
-    yield ("smt2cnf.py none", refused, script, ["none"], b"",
-           "smt2cnf.py: none: [Errno 2] No such file or directory: 'none'", 1)
-    for text, lines in ((f"{WORD}(assert (= (bvadd x #x01) x))", ["p cnf 1 2", "1 0", "-1 0"]),
-                        (f"{TRUTH}(assert false)", ["p cnf 1 2", "1 0", "-1 0"]),
-                        (f"{TRUTH}(assert (not p))", ["p cnf 1 1", "c p 1", "-1 0"])):
-        yield f"smt2cnf.py, {text}", formula_of, text, lines
+def test_smt2cnf_without_a_file(tmp_path: Path) -> None:
+    want_refused("smt/smt2cnf.py", ["none"],
+                 "none: [Errno 2] No such file or directory: 'none'", tmp_path)
 
 
-def formula_of(text: str, lines: Sequence[str], work: Path) -> None:
-    """smt2cnf.py writes these lines."""
-    done = run([EXAMPLES / "smt" / "smt2cnf.py", written(text, work)])
-    want((done.out.splitlines(), done.err, done.status), (lines, "", 0), "the formula")
-
-
-def refused_answers(script: str, words: Sequence[str], what: str) -> Iterator[Row]:
-    """The script refuses these answers to a satisfiable question."""
-    name, cause = (Path(script).name,
-                   "the answer isn't s SATISFIABLE with an assignment of this formula")
-    for given in NO_ANSWERS:
-        yield (f"{name}, {given!r}", refused, script, ["--show", *words], given,
-               f"{name}: no {what}: {cause}", 1)
+@pytest.mark.parametrize("text, lines", [
+    (f"{WORD}(assert (= (bvadd x #x01) x))", ["p cnf 1 2", "1 0", "-1 0"]),
+    (f"{TRUTH}(assert false)", ["p cnf 1 2", "1 0", "-1 0"]),
+    (f"{TRUTH}(assert (not p))", ["p cnf 1 1", "c p 1", "-1 0"])])
+def test_smt2cnf_writes_a_formula(text: str, lines: Sequence[str], tmp_path: Path) -> None:
+    done = run([EXAMPLES / "smt" / "smt2cnf.py", written(text, tmp_path)])
+    assert (done.err, done.status) == ("", 0)
+    assert done.out.splitlines() == lines
 
 
 # Lemmas that lemma.py refuses, for eight bits. The first ones would do something else as Python.
@@ -240,101 +266,60 @@ LEMMAS += [
     ("~" * 5000 + "a == b", "LEMMA is nested too deeply")]
 
 
+@pytest.mark.parametrize("text, cause", [pytest.param(text, cause, id=text[:40])
+                                         for text, cause in LEMMAS])
+def test_lemma_refuses_a_lemma(text: str, cause: str, tmp_path: Path) -> None:
+    want_refused("lemma/lemma.py", ["8", text], cause, tmp_path)
+    assert not any(tmp_path.iterdir())
+
+
+# Circuits and planning.
+
 REGISTER = """module NAME(input clock, input reset, input in, output reg last);
   always @(posedge clock) last <= reset ? 0 : in;
 endmodule
 """
 
 
-def circuits() -> Iterator[Row]:
-    """Circuits that the scripts refuse."""
-    def row(script: str, words: Sequence[str], text: str, said: str) -> Row:
-        return (f"{script}, {said}", refused_with_files, script, words, {"x.v": text},
-                f"aiger2cnf.awk: {said}")
-    checked = ["x.v", "5", "f"]
-    yield row("fifo/bmc.sh", checked, REGISTER, "the circuit has no output bad")
-    yield row("fifo/bmc.sh", checked, REGISTER.replace("last", "bad").replace("reset", "clear"),
-              "the circuit has no input reset")
-    yield row("miter/miter.sh", ["x.v", "f"],
-              REGISTER.replace("NAME", "one") + REGISTER.replace("NAME", "other"),
-              "a circuit with registers, which bmc.sh is for")
+@pytest.mark.parametrize("script, words, text, said", [
+    pytest.param("fifo/bmc.sh", ["x.v", "5", "f"], REGISTER, "the circuit has no output bad",
+                 id="no output"),
+    pytest.param("fifo/bmc.sh", ["x.v", "5", "f"],
+                 REGISTER.replace("last", "bad").replace("reset", "clear"),
+                 "the circuit has no input reset", id="no reset"),
+    pytest.param("miter/miter.sh", ["x.v", "f"],
+                 REGISTER.replace("NAME", "one") + REGISTER.replace("NAME", "other"),
+                 "a circuit with registers, which bmc.sh is for", id="registers")])
+def test_refused_circuits(script: str, words: Sequence[str], text: str, said: str,
+                          tmp_path: Path) -> None:
+    written(text, tmp_path, "x.v")
+    done = run([EXAMPLES / script, *words], b"", cwd=tmp_path)
+    assert done == Ran("", f"aiger2cnf.awk: {said}\n", 1)
 
 
-def scripts() -> Iterator[Row]:
-    lemma, plan = "lemma/lemma.py", "planning/plan.py"
-    domain, problem = (str(EXAMPLES / "planning" / name)
-                       for name in ("gripper.pddl", "four-balls.pddl"))
-    yield from refused_answers(plan, [domain, problem, "11"], "plan")
-    for words in ([], ["8"], ["0", "a <= b"], ["x", "a <= b"], ["8", "a <= b", "c"]):
-        yield (f"lemma.py {words}", refused, lemma, words, b"", "usage: lemma.py WIDTH LEMMA", 2)
-    for text, cause in LEMMAS:
-        yield (f"lemma.py {text[:40]}", refused_with_files, lemma, ["8", text], {},
-               f"lemma.py: {cause}")
-    yield from smt_problems()
-    for given in NO_ANSWERS:
-        yield (f"show.awk, {given!r}", not_shown, "p cnf 7 2\nc a[0] 1\n3 -4 0\n5 -1 0\n", given,
-               "the answer isn't s SATISFIABLE with an assignment of this formula")
-    for text in ("p cnf 2 1\n1 2 0\n", "c generated from Yosys RTL\np cnf 2 1\n1 2 0\n", ""):
-        yield (f"show.awk, {text!r}", not_shown, text, b"s SATISFIABLE\nv 1 2 0\n",
-               "the formula has no comments 'c NAME LITERAL'")
-    for words in ([], ["formula.cnf"], ["formula.cnf", "answer", "more"]):
-        yield (f"show.awk {words}", refused, "show.awk", words, b"",
-               "usage: show.awk FORMULA ANSWER|CORE", 2)
-    for words in ([], ["--stobj", "f"], ["f"], ["f", "p", "x"]):
-        yield (f"acl2.py {words}", refused, "acl2.py", words, b"",
-               "usage: acl2.py [--stobj] FORMULA PROOF", 2)
-    for formula, cause in (("none", "[Errno 2] No such file or directory: 'none'"),
-                           ("/dev/null", "no header")):
-        yield (f"acl2.py {formula}", refused, "acl2.py", [formula, "none"], b"",
-               f"acl2.py: FORMULA or PROOF can't be read: {cause}", 1)
-    for words in ([], ["x.v"]):
-        yield (f"miter.sh {words}", refused, "miter/miter.sh", words, b"",
-               "usage: miter.sh FILE.v FORMULA", 2)
-    for words in ([], ["x.v", "5"], ["x.v", "x", "f"], ["x.v", "", "f"], ["x.v", "0", "f"],
-                  ["x.v", "5", "f", "g"], ["x.v", "-5", "f"], ["x.v", "1", "f"],
-                  ["--induction", "x.v", "5"], ["--induction", "x.v", "1", "f"]):
-        yield (f"bmc.sh {words}", refused, "fifo/bmc.sh", words, b"",
-               "usage: bmc.sh [--induction] FILE.v DEPTH FORMULA, with 2 or more steps for DEPTH",
-               2)
-    yield from circuits()
-    for words in ([], ["3", "3"], ["3", "1", "9"], ["3", "x", "9"]):
-        yield (f"waerden.py {words}", refused, "cubes/waerden.py", words, b"",
-               "usage: waerden.py K L N, with 2 or more for K and L", 2)
-    for words in ([], ["5"], ["x", "formula.cnf"], ["5", "a", "b"]):
-        yield (f"split.py {words}", refused, "cubes/split.py", words, b"",
-               "usage: split.py COUNT FORMULA", 2)
-    for words in ([], ["--show"], [domain, problem], [domain, problem, "x"],
-                  [domain, problem, "-1"], [domain, problem, "1", "2"]):
-        yield (f"plan.py {words}", refused, plan, words, b"",
-               "usage: plan.py [--show] DOMAIN PROBLEM STEPS", 2)
-    for words, given, cause in (
-            ([domain, "none"], b"", "DOMAIN, PROBLEM or answer can't be read: [Errno 2] No such "
-                                    "file or directory: 'none'"),
-            ([domain, "/dev/stdin"], b"(define (problem empty))",
-             "DOMAIN, PROBLEM or answer can't be read: ':init'"),
-            *((["/dev/stdin", problem], text, f"/dev/stdin: {what} isn't supported, only STRIPS")
-              for text, what in (
-                  (b"(define (domain d) (:predicates (p ?x - t)))", "PDDL with types"),
-                  (b"(define (domain d) (:requirements :strips :typing))", "PDDL with types"),
-                  (b"(define (domain d) (:types t))", "PDDL with types"),
-                  (b"(define (domain d) (:requirements :equality))", "equality"),
-                  (b"(define (domain d) (:action a :precondition (not (= ?x ?y))))", "equality"),
-                  (b"(define (domain d) (:action a :precondition (or (p) (q))))",
-                   "more than conjunctions"),
-                  (b"(define (domain d) (:action a :effect (forall (?x) (p ?x))))",
-                   "more than conjunctions"),
-                  (b"(define (domain d) (:requirements :adl))", "more than conjunctions"))),
-            ([problem, domain], b"", f"{problem}: not a domain in PDDL"),
-            ([domain, domain], b"", f"{domain}: not a problem in PDDL"),
-            ([domain, "/dev/null"], b"", "/dev/null: not a problem in PDDL")):
-        yield (f"plan.py {words} {given!r}", refused, plan, [*words, "3"], given,
-               f"plan.py: {cause}", 1)
+@pytest.mark.parametrize("text, what", [
+    (b"(define (domain d) (:predicates (p ?x - t)))", "PDDL with types"),
+    (b"(define (domain d) (:requirements :strips :typing))", "PDDL with types"),
+    (b"(define (domain d) (:types t))", "PDDL with types"),
+    (b"(define (domain d) (:requirements :equality))", "equality"),
+    (b"(define (domain d) (:action a :precondition (not (= ?x ?y))))", "equality"),
+    (b"(define (domain d) (:action a :precondition (or (p) (q))))", "more than conjunctions"),
+    (b"(define (domain d) (:action a :effect (forall (?x) (p ?x))))", "more than conjunctions"),
+    (b"(define (domain d) (:requirements :adl))", "more than conjunctions")])
+def test_plan_refuses_a_domain(text: bytes, what: str, tmp_path: Path) -> None:
+    want_refused("planning/plan.py", ["/dev/stdin", PROBLEM, "3"],
+                 f"/dev/stdin: {what} isn't supported, only STRIPS", tmp_path, text)
 
 
-def rows() -> List[Row]:
-    return ([(name, shown, name, files, packages) for name, files, packages in PAGES] + all_known()
-            + list(scripts()))
-
-
-pytestmark = LRUP_SOLVE
-test_row = parametrized(rows())
+@pytest.mark.parametrize("words, given, cause", [
+    pytest.param([DOMAIN, "none"], b"",
+                 "DOMAIN or PROBLEM can't be read: [Errno 2] No such file or directory: 'none'",
+                 id="no file"),
+    pytest.param([DOMAIN, "/dev/stdin"], b"(define (problem empty))",
+                 "DOMAIN or PROBLEM can't be read: ':init'", id="no init"),
+    pytest.param([PROBLEM, DOMAIN], b"", f"{PROBLEM}: not a domain in PDDL", id="swapped"),
+    pytest.param([DOMAIN, DOMAIN], b"", f"{DOMAIN}: not a problem in PDDL", id="two domains"),
+    pytest.param([DOMAIN, "/dev/null"], b"", "/dev/null: not a problem in PDDL", id="nothing")])
+def test_plan_refuses_a_problem(words: Sequence[str], given: bytes, cause: str,
+                                tmp_path: Path) -> None:
+    want_refused("planning/plan.py", [*words, "3"], cause, tmp_path, given)

@@ -15,21 +15,23 @@ import random
 import subprocess
 import sys
 import tempfile
+from typing import Dict, List, Tuple
 
 sys.dont_write_bytecode = True
 HERE = os.path.dirname(os.path.abspath(__file__))
-sys.path.insert(0, os.path.join(HERE, "..", "program"))
-from measure import run
+ROOT = os.path.dirname(os.path.dirname(HERE))
+sys.path.insert(0, ROOT)
+from bench.program.measure import run
 
-ROOT = os.path.join(HERE, "..", "..")
 GENERATOR = os.path.join(ROOT, "examples", "solver", "generate.py")
 FORMULAS = [("random 200 2", "random 3-SAT, 200 variables"),
             ("random 200 3", "random 3-SAT, another"),
             ("pigeons 8", "pigeonholes, 8"), ("bmc.cnf", "the bounded model check")]
 REFUTED = 20 << 8       # a solver's status, as wait returns it
+Command = Tuple[List[str], int]     # with its status
 
 
-def make_formula(words, path):
+def make_formula(words: str, path: str) -> str:
     if words.endswith(".cnf"):
         return os.path.join(ROOT, "examples", words)
     with open(path, "w") as out:
@@ -37,7 +39,7 @@ def make_formula(words, path):
     return path
 
 
-def with_other_hints(stream, more, out):
+def with_other_hints(stream: str, more: bool, out: str) -> None:
     """Writes the stream with the hints of each line shuffled and, if `more`, with as many random
     ones added."""
     numbers = random.Random(1)
@@ -54,7 +56,7 @@ def with_other_hints(stream, more, out):
             file.write(" ".join(words) + "\n")
 
 
-def wanted(words, status):
+def wanted(words: List[str], status: int) -> Tuple[float, bytes]:
     """Runs the command, which has to end with the status. Returns its processor time and its
     output."""
     _, seconds, _, (out, found) = run(words)
@@ -63,14 +65,14 @@ def wanted(words, status):
     return seconds, out
 
 
-def write(path, data):
+def write(path: str, data: bytes) -> str:
     with open(path, "wb") as file:
         file.write(data)
     return path
 
 
-def commands_of(given, words, work):
-    """By name, each command with its status; and the number of the stream's lines."""
+def commands_of(given: argparse.Namespace, words: str, work: str) -> Tuple[Dict[str, Command], int]:
+    """The commands by name, and the number of the stream's lines."""
     name = os.path.join(work, words.replace(" ", "-").replace(".cnf", ""))
     formula = make_formula(words, name + ".cnf")
     solver = ["cadical", "-q", formula, name + ".binary"]
@@ -93,7 +95,7 @@ def commands_of(given, words, work):
     }, lines
 
 
-def main():
+def main() -> None:
     arguments = argparse.ArgumentParser(description=__doc__.splitlines()[0])
     arguments.add_argument("--rounds", type=int, default=5)
     arguments.add_argument("--work")

@@ -21,14 +21,15 @@ import shutil
 import subprocess
 import sys
 import tempfile
+from typing import Callable, DefaultDict, Dict, List, Sequence, Sized, Tuple
 
 sys.dont_write_bytecode = True
 HERE = os.path.dirname(os.path.abspath(__file__))
-ROOT = os.path.join(HERE, "..", "..")
+ROOT = os.path.dirname(os.path.dirname(HERE))
 EXAMPLES = os.path.join(ROOT, "examples")
-sys.path[:0] = [EXAMPLES, os.path.join(HERE, "..", "solve"), os.path.join(HERE, "..", "program")]
-import acl2
-from measure import run
+sys.path.insert(0, ROOT)
+from bench.program.measure import run
+from examples import acl2
 
 KINDS = (acl2.INCREMENTAL, acl2.STOBJ)
 FORMULAS = ("pigeons 8", "random 200 8", "commute 6", "squares 7", "pipeline 4 8", "gripper 6 10",
@@ -44,7 +45,7 @@ ITS_PROOF = "3 0 1 2 0\n"
 # Proofs.
 
 
-def output_of(words):
+def output_of(words: Sequence[str]) -> str:
     """A tool's output; its status has to be 0 or 20."""
     done = subprocess.run(words, stdout=subprocess.PIPE, text=True)
     if done.returncode not in (0, 20):
@@ -52,15 +53,16 @@ def output_of(words):
     return done.stdout
 
 
-def trimmed(given, formula, streams, proof):
+def trimmed(given: argparse.Namespace, formula: str, streams: Sequence[str],
+            proof: str) -> List[str]:
     """lrupd's command on the trimmed proof."""
     if os.path.exists(proof):
         os.unlink(proof)
     said = output_of([given.trim, "--lrat", proof, formula, *streams])
-    return [given.program, *shlex.split(re.search(r": lrupd (.*)", said)[1])]
+    return [given.program, *shlex.split(re.findall(r": lrupd (.*)", said)[0])]
 
 
-def solved(given, words, work):
+def solved(given: argparse.Namespace, words: str, work: str) -> Tuple[str, str, List[str]]:
     """The formula, its LRAT proof, and lrupd's command."""
     name = os.path.join(work, words.replace(" ", "-"))
     formula, kept = name + ".cnf", name + ".kept"
@@ -79,7 +81,7 @@ def solved(given, words, work):
 # Times.
 
 
-def user_time(words):
+def user_time(words: List[str]) -> Tuple[float, float]:
     """The user time of a checker that has to accept the proof, and its peak memory in MiB."""
     before = resource.getrusage(resource.RUSAGE_CHILDREN).ru_utime
     _, _, memory, (out, status) = run(words)
@@ -88,19 +90,19 @@ def user_time(words):
     return resource.getrusage(resource.RUSAGE_CHILDREN).ru_utime - before, memory
 
 
-def verified_time(kind, formula, proof):
+def verified_time(kind: str, formula: str, proof: str) -> float:
     found, = acl2.judged(kind, [(formula, proof)])
     if not found.is_verified:
         sys.exit(f"{kind}: {formula}: {found.fault}")
     return found.seconds
 
 
-def ratio(seconds, others):
+def ratio(seconds: float, others: float) -> str:
     """The ratio as text; '-' if the divisor is too short for the system's ticks."""
     return f"{seconds / others:.1f}" if others >= SHORTEST else "-"
 
 
-def time_formula(given, words, work):
+def time_formula(given: argparse.Namespace, words: str, work: str) -> None:
     """Prints a row of the table."""
     formula, proof, lrupd = solved(given, words, work)
     own = {kind: acl2.converted(kind, formula, proof, os.path.join(work, kind)) for kind in KINDS}
@@ -127,31 +129,31 @@ def time_formula(given, words, work):
 class Line:
     """A line of LRAT. A deletion keeps its text."""
 
-    def __init__(self, text):
+    def __init__(self, text: str) -> None:
         self.text, words = text, text.split()
         self.is_deletion = words[1] == "d"
         end = 1 if self.is_deletion else words.index("0", 1)
         self.identity, self.literals, self.hints = words[0], words[1:end], words[end + 1:-1]
 
-    def __str__(self):
+    def __str__(self) -> str:
         return (self.text if self.is_deletion
                 else " ".join([self.identity, *self.literals, "0", *self.hints, "0"]))
 
 
-def place(numbers, items):
+def place(numbers: random.Random, items: Sized) -> int:
     return numbers.randrange(len(items))
 
 
-def other_clause(numbers, line):
+def other_clause(numbers: random.Random, line: Line) -> str:
     return str(numbers.randrange(1, int(line.identity)))
 
 
-def negated(word):
+def negated(word: str) -> str:
     return word[1:] if word[0] == "-" else "-" + word
 
 
 # Each of these changes a line with literals and at least two hints, but not the last line.
-FAULTS = {
+FAULTS: Dict[str, Callable[[Line, random.Random], object]] = {
     "a hint left out": lambda line, numbers: line.hints.pop(place(numbers, line.hints)),
     "two hints in another order": lambda line, numbers: line.hints.insert(
         place(numbers, line.hints[1:]), line.hints.pop()),
@@ -167,7 +169,7 @@ FAULTS = {
                                                          other_clause(numbers, line)),
 }
 # Each of these changes the list of lines at one line's index.
-LIST_FAULTS = {
+LIST_FAULTS: Dict[str, Callable[[List[Line], int, random.Random], object]] = {
     "a line left out": lambda lines, at, numbers: lines.pop(at),
     "a line twice": lambda lines, at, numbers: lines.insert(at, lines[at]),
     "a deletion too early": lambda lines, at, numbers: lines.insert(
@@ -179,7 +181,7 @@ LIST_FAULTS = {
 DOUBLED = "a literal twice"
 
 
-def faulty_proof(text, kind, numbers):
+def faulty_proof(text: str, kind: str, numbers: random.Random) -> str:
     lines = list(map(Line, text.splitlines()))
     at = numbers.choice([k for k, line in enumerate(lines[:-1])
                          if line.literals and len(line.hints) > 1 and not line.is_deletion])
@@ -190,7 +192,8 @@ def faulty_proof(text, kind, numbers):
     return "".join(f"{line}\n" for line in lines)
 
 
-def verdicts(lrupd, formula, proofs, work):
+def verdicts(lrupd: Sequence[str], formula: str, proofs: Sequence[str],
+             work: str) -> List[Tuple[bool, ...]]:
     """For each proof, whether lrupd and the two others accept it."""
     ended = [subprocess.run([*lrupd[:-2], formula, proof], stdout=subprocess.PIPE,
                             stderr=subprocess.PIPE) for proof in proofs]
@@ -205,7 +208,7 @@ def verdicts(lrupd, formula, proofs, work):
     return list(zip(*found))
 
 
-def judge_faulty(given, work):
+def judge_faulty(given: argparse.Namespace, work: str) -> None:
     """Uses the recorded streams of four solvers, so that each run has the same proofs."""
     formula, proof = os.path.join(EXAMPLES, "bmc.cnf"), os.path.join(work, "bmc.lrat")
     lrupd = trimmed(given, formula,
@@ -213,7 +216,9 @@ def judge_faulty(given, work):
     lrupd[1:5] = []     # the default sizes, with room for one more line
     with open(proof) as file:
         text = file.read()
-    kinds, proofs, found = [*FAULTS, *LIST_FAULTS], [], collections.defaultdict(list)
+    kinds = [*FAULTS, *LIST_FAULTS]
+    proofs: List[str] = []
+    found: DefaultDict[str, List[Tuple[bool, ...]]] = collections.defaultdict(list)
     for number in range(FAULTY):
         proofs.append(os.path.join(work, f"faulty-{number}"))
         with open(proofs[-1], "w") as file:
@@ -236,7 +241,7 @@ def judge_faulty(given, work):
 # Satisfiable formulas.
 
 
-def judge_satisfiable(given, work):
+def judge_satisfiable(given: argparse.Namespace, work: str) -> None:
     """ACL2's checkers get the formula's bytes as they are, since this tests the parsers."""
     print("\n| A satisfiable formula, with | `lrupd` | incremental | stobj-based |\n"
           "|---|---|---|---|")
@@ -257,12 +262,12 @@ def judge_satisfiable(given, work):
             sys.exit("lrupd accepts a satisfiable formula")
 
 
-def main():
+def main() -> None:
     arguments = argparse.ArgumentParser(description=__doc__.splitlines()[0])
     arguments.add_argument("--rounds", type=int, default=3)
     arguments.add_argument("--work")
     for name in ("program", "trim", "solve"):
-        arguments.add_argument(name, type=os.path.abspath)
+        arguments.add_argument(name, type=lambda word: os.path.abspath(word))
     given = arguments.parse_args()
     if not shutil.which("acl2"):
         sys.exit(f"peers.py: no acl2 on the PATH: {acl2.PACKAGES}")

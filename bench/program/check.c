@@ -21,19 +21,29 @@
 enum { PIECE = 65536, BLOCK = 1 << 20, MOST_STREAMS = 64, TRIES = 1000000 };
 
 // the code of a literal is 2 v, or 2 v + 1 if negative
-typedef struct { uint32_t len; uint32_t codes[]; } Clause;
+typedef struct {
+    uint32_t len;
+    uint32_t codes[];
+} Clause;
 
-typedef struct { int file; uint32_t at, len; unsigned char bytes[PIECE]; } Reader;
+typedef struct {
+    int file;
+    uint32_t at, len;
+    unsigned char bytes[PIECE];
+} Reader;
 
-typedef struct { int64_t *items; size_t len, room; } List;
+typedef struct {
+    int64_t *items;
+    size_t len, room;
+} List;
 
 typedef struct {
     Reader reader;
     uint64_t number, last, line, added, deleted;
     List literals, hints;
-    uint32_t *trail, trail_len;    // the codes that are false
+    uint32_t *trail, trail_len;  // the codes that are false
     unsigned char *is_false, *dropped;
-    char *block;                   // the memory for the next clauses
+    char *block;  // the memory for the next clauses
     size_t block_left;
     int empty, over;
     char end[64];
@@ -161,8 +171,10 @@ static inline int is_dropped(const Stream *s, uint64_t id) {
 
 static void bad(Stream *s, const char *fault, int64_t id) {
     s->over = 1;
-    if (id != 0) snprintf(s->end, sizeof s->end, "bad line %lu (%s %ld)", s->line, fault, id);
-    else snprintf(s->end, sizeof s->end, "bad line %lu (%s)", s->line, fault);
+    if (id != 0)
+        snprintf(s->end, sizeof s->end, "bad line %lu (%s %ld)", s->line, fault, id);
+    else
+        snprintf(s->end, sizeof s->end, "bad line %lu (%s)", s->line, fault);
 }
 
 // Propagates the hints. True if they lead to a conflict.
@@ -191,10 +203,16 @@ static inline int shown(Stream *s) {
 }
 
 static inline void add(Stream *s, uint64_t id) {
-    if (!owns(s, id) || id <= s->last) { bad(s, "not taken", 0); return; }
+    if (!owns(s, id) || id <= s->last) {
+        bad(s, "not taken", 0);
+        return;
+    }
     for (size_t k = 0; k < s->literals.len; k++) {
         int64_t literal = s->literals.items[k];
-        if ((uint64_t)llabs(literal) > variables || s->is_false[code(-literal)]) { bad(s, "not taken", 0); break; }
+        if ((uint64_t)llabs(literal) > variables || s->is_false[code(-literal)]) {
+            bad(s, "not taken", 0);
+            break;
+        }
         make_false(s, code(literal));
     }
     uint32_t len = s->trail_len;
@@ -207,16 +225,25 @@ static inline void add(Stream *s, uint64_t id) {
     forget(s);
 }
 
-static inline void delete(Stream *s) {
+static inline void delete (Stream *s) {
     for (size_t k = 0; k < s->hints.len; k++) {
         uint64_t id = (uint64_t)s->hints.items[k];
-        if (id == 0 || id > last_identity) { bad(s, "not live", (int64_t)id); return; }
+        if (id == 0 || id > last_identity) {
+            bad(s, "not live", (int64_t)id);
+            return;
+        }
         if (owns(s, id)) {
             uintptr_t found = atomic_load_explicit(&clause_at[id], memory_order_relaxed);
-            if (found == 0 || found & 1) { bad(s, "not live", (int64_t)id); return; }
+            if (found == 0 || found & 1) {
+                bad(s, "not live", (int64_t)id);
+                return;
+            }
             atomic_store_explicit(&clause_at[id], found | 1, memory_order_release);
         } else {
-            if (is_dropped(s, id)) { bad(s, "not live", (int64_t)id); return; }
+            if (is_dropped(s, id)) {
+                bad(s, "not live", (int64_t)id);
+                return;
+            }
             s->dropped[id / 8] |= (unsigned char)(1 << id % 8);
         }
         s->deleted++;
@@ -232,14 +259,21 @@ static void take_line(Stream *s) {
         return;
     }
     int64_t id;
-    if (number(&s->reader, byte, &id) != ' ') { bad(s, "not taken", 0); return; }
+    if (number(&s->reader, byte, &id) != ' ') {
+        bad(s, "not taken", 0);
+        return;
+    }
     if (peek(&s->reader) == 'd') {
         next(&s->reader);
-        if (next(&s->reader) != ' ' || numbers(&s->reader, &s->hints) != '\n') bad(s, "not taken", 0);
-        else delete(s);
+        if (next(&s->reader) != ' ' || numbers(&s->reader, &s->hints) != '\n')
+            bad(s, "not taken", 0);
+        else
+            delete (s);
     } else {
-        if (numbers(&s->reader, &s->literals) != ' ' || numbers(&s->reader, &s->hints) != '\n') bad(s, "not taken", 0);
-        else add(s, (uint64_t)id);
+        if (numbers(&s->reader, &s->literals) != ' ' || numbers(&s->reader, &s->hints) != '\n')
+            bad(s, "not taken", 0);
+        else
+            add(s, (uint64_t)id);
     }
 }
 
@@ -265,7 +299,8 @@ static void read_formula(const char *name, Stream *s) {
     while (peek(reader) == 'c')
         for (int byte; (byte = next(reader)) != '\n';)
             if (byte < 0) fail("no header");
-    for (const char *word = "p cnf"; *word != 0; word++) if (next(reader) != *word) fail("no header");
+    for (const char *word = "p cnf"; *word != 0; word++)
+        if (next(reader) != *word) fail("no header");
     variables = (uint64_t)of_formula(reader);
     clauses = (uint64_t)of_formula(reader);
     last_identity = clauses + streams * lines;
@@ -277,7 +312,8 @@ static void read_formula(const char *name, Stream *s) {
             if ((uint64_t)llabs(literal) > variables) fail("variable out of range");
             make_false(s, code(literal));
         }
-        atomic_store_explicit(&clause_at[id], (uintptr_t)keep(s, s->trail_len), memory_order_relaxed);
+        atomic_store_explicit(&clause_at[id], (uintptr_t)keep(s, s->trail_len),
+                              memory_order_relaxed);
         forget(s);
     }
     close(reader->file);
@@ -287,11 +323,15 @@ static void read_formula(const char *name, Stream *s) {
 int main(int count, char **words) {
     int at = 1;
     for (; at < count && words[at][0] == '-'; at++) {
-        if (strcmp(words[at], "--threads") == 0) threaded = 1;
-        else if (strcmp(words[at], "--lines") == 0 && at + 1 < count) lines = strtoull(words[++at], NULL, 10);
-        else fail("no such option");
+        if (strcmp(words[at], "--threads") == 0)
+            threaded = 1;
+        else if (strcmp(words[at], "--lines") == 0 && at + 1 < count)
+            lines = strtoull(words[++at], NULL, 10);
+        else
+            fail("no such option");
     }
-    if (count - at < 2 || count - at - 1 > MOST_STREAMS) fail("usage: check [--threads] [--lines N] FORMULA STREAM...");
+    if (count - at < 2 || count - at - 1 > MOST_STREAMS)
+        fail("usage: check [--threads] [--lines N] FORMULA STREAM...");
     streams = (uint64_t)(count - at - 1);
     Stream *formula = zeroed(1, sizeof *formula);
     read_formula(words[at], formula);
@@ -321,7 +361,8 @@ int main(int count, char **words) {
     }
     int empty = 0;
     for (uint64_t k = 0; k < streams; k++) {
-        printf("c stream %lu: %lu added, %lu deleted, %s\n", k + 1, stream[k]->added, stream[k]->deleted, stream[k]->end);
+        printf("c stream %lu: %lu added, %lu deleted, %s\n", k + 1, stream[k]->added,
+               stream[k]->deleted, stream[k]->end);
         empty |= stream[k]->empty;
     }
     puts(empty ? "s UNSATISFIABLE" : "s UNKNOWN");

@@ -15,18 +15,19 @@ import tempfile
 import threading
 import time
 from pathlib import Path
+from typing import Sequence, Tuple
 
 FORMULA = Path(__file__).resolve().parents[2] / "examples" / "four-clause.cnf"
 SECONDS = 8
 
 
-def busy(process):
+def busy(process: "subprocess.Popen[bytes]") -> float:
     """The process's processor time so far, in seconds."""
     fields = Path(f"/proc/{process.pid}/stat").read_text().rsplit(")", 1)[1].split()
     return (int(fields[11]) + int(fields[12])) / os.sysconf("SC_CLK_TCK")
 
 
-def busy_meanwhile(process):
+def busy_meanwhile(process: "subprocess.Popen[bytes]") -> float:
     """The processor time during SECONDS, which begin after one second."""
     time.sleep(1)
     before = busy(process)
@@ -37,37 +38,38 @@ def busy_meanwhile(process):
 class Run:
     """The program with pipes as streams, and their writing ends."""
 
-    def __init__(self, folder, count, *options):
+    def __init__(self, folder: str, count: int, *options: str) -> None:
         pipes = [f"{folder}/{number}" for number in range(count)]
         for pipe in pipes:
             Path(pipe).unlink(missing_ok=True)
             os.mkfifo(pipe)
-        words = [sys.argv[1], *options, FORMULA, *pipes]
+        words = [sys.argv[1], *options, str(FORMULA), *pipes]
         self.process = subprocess.Popen(words, stdout=subprocess.PIPE)
         self.ends = [os.open(pipe, os.O_WRONLY) for pipe in pipes]
 
-    def write(self, text):
+    def write(self, text: str) -> None:
         os.write(self.ends[0], text.encode())
 
-    def report_after(self, began):
+    def report_after(self, began: float) -> Tuple[float, float]:
         """Closes the pipes. Returns the milliseconds until the report came, and the whole run's
         processor time in seconds."""
         for end in self.ends:
             os.close(end)
+        assert self.process.stdout
         self.process.stdout.read()
         late = (time.monotonic() - began) * 1e3
         _, _, used = os.wait4(self.process.pid, 0)
         return late, used.ru_utime + used.ru_stime
 
 
-def silent(folder):
+def silent(folder: str) -> float:
     run = Run(folder, 64, "--lines", "10", "--room", "10")
     taken = busy_meanwhile(run.process)
     run.report_after(time.monotonic())
     return taken
 
 
-def behind_a_hint(folder, behind):
+def behind_a_hint(folder: str, behind: int) -> float:
     """The processor time while stream 1 waits for a clause of stream 2, which writes none, with
     this number of bytes after the hint."""
     run = Run(folder, 2, "--tries", "1000000")
@@ -82,7 +84,7 @@ def behind_a_hint(folder, behind):
     return taken
 
 
-def after_silence(folder):
+def after_silence(folder: str) -> float:
     run = Run(folder, 1, "--lines", "10", "--room", "10")
     time.sleep(0.2)
     began = time.monotonic()
@@ -90,7 +92,7 @@ def after_silence(folder):
     return run.report_after(began)[0]
 
 
-def trickling(folder, rate):
+def trickling(folder: str, rate: int) -> Tuple[float, float]:
     """The milliseconds from the last line to the report, and the processor time of a line in
     microseconds."""
     run = Run(folder, 1, "--lines", "200000", "--room", "200000")
@@ -103,11 +105,11 @@ def trickling(folder, rate):
     return late, taken * 1e6 / count
 
 
-def spread(times):
+def spread(times: Sequence[float]) -> str:
     return f"{min(times):.2f} to {max(times):.2f} ms, median {statistics.median(times):.2f}"
 
 
-def main():
+def main() -> None:
     if len(sys.argv) != 2:
         sys.exit(__doc__)
     # A write to a pipe whose reader was killed fails, and ends the writing thread.

@@ -13,10 +13,13 @@ import statistics
 import sys
 import tempfile
 import time
+from typing import List, Sequence, Tuple
+
+# Wall seconds, processor seconds, peak MiB, and the output with the status.
+Ran = Tuple[float, float, float, Tuple[bytes, int]]
 
 
-def run(words):
-    """Wall seconds, processor seconds, peak MiB, and the output with the status."""
+def run(words: List[str]) -> Ran:
     with tempfile.TemporaryFile() as out:
         start = time.perf_counter()
         child = os.fork()
@@ -29,21 +32,24 @@ def run(words):
         return wall, usage.ru_utime + usage.ru_stime, usage.ru_maxrss / 1024, (out.read(), status)
 
 
-def main():
+def medians(results: Sequence[Ran]) -> List[float]:
+    """Of wall time, processor time and memory."""
+    return [statistics.median(column) for column in list(zip(*results))[:3]]
+
+
+def main() -> None:
     arguments = argparse.ArgumentParser(description=__doc__.splitlines()[0])
     arguments.add_argument("--rounds", type=int, default=11)
     arguments.add_argument("commands", nargs=2)
     given = arguments.parse_args()
     commands = [shlex.split(command) for command in given.commands]
-    found = [[], []]
+    found: Tuple[List[Ran], List[Ran]] = [], []
     for _ in range(given.rounds):
         for command, results in zip(commands, found):
             results.append(run(command))
     if len({result[3] for results in found for result in results}) > 1:
         sys.exit("the outputs differ")
-    medians = [[statistics.median(column) for column in list(zip(*results))[:3]]
-               for results in found]
-    for name, one, other in zip(("wall", "processor", "memory"), *medians):
+    for name, one, other in zip(("wall", "processor", "memory"), *map(medians, found)):
         print(f"{name:10} {one:10.3f} {other:10.3f}   ratio {one / other:.2f}")
 
 

@@ -9,16 +9,18 @@ if all streams are accepted there. It prints the ratios of the medians. The outp
 same. Needs Python 3 and a C compiler."""
 import argparse
 import os
-import statistics
 import subprocess
 import sys
 import tempfile
+from typing import List, Sequence, Tuple
 
 sys.dont_write_bytecode = True
-from measure import run
-
 HERE = os.path.dirname(os.path.abspath(__file__))
-GENERATOR = os.path.join(HERE, "..", "..", "examples", "solver", "generate.py")
+ROOT = os.path.dirname(os.path.dirname(HERE))
+sys.path.insert(0, ROOT)
+from bench.program.measure import Ran, medians, run
+
+GENERATOR = os.path.join(ROOT, "examples", "solver", "generate.py")
 
 # The words of generate.py, the number of streams, and the name in the table.
 SETS = [
@@ -31,7 +33,7 @@ SETS = [
 ]
 
 
-def make(work, solver, words, count):
+def make(work: str, solver: str, words: str, count: int) -> Tuple[str, List[str]]:
     """The paths of the formula and of the streams."""
     name = os.path.join(work, words.replace(" ", "-"))
     formula, streams = name + ".cnf", [f"{name}-{count}.{number}" for number in range(1, count + 1)]
@@ -47,15 +49,15 @@ def make(work, solver, words, count):
     return formula, streams
 
 
-def sizes(formula, streams):
+def sizes(formula: str, streams: Sequence[str]) -> Tuple[int, int]:
     """The --lines and the --room that the streams need."""
     with open(formula) as text:
         clauses = int(next(line for line in text if line.startswith("p")).split()[3])
     lines = room = 1
     for stream in streams:
         last = literals = 0
-        with open(stream, "rb") as text:
-            for line in text:
+        with open(stream, "rb") as data:
+            for line in data:
                 head = line.partition(b" 0 ")[0]
                 if b"d" not in head:
                     literals += head.count(b" ")
@@ -65,19 +67,20 @@ def sizes(formula, streams):
     return lines, room
 
 
-def compare(ours, theirs, rounds):
+def compare(ours: List[str], theirs: List[str],
+            rounds: int) -> Tuple[List[float], List[float]]:
     """For each command, the medians of wall time, processor time and memory."""
-    results = [], []
+    results: Tuple[List[Ran], List[Ran]] = [], []
     for _ in range(rounds):
         for command, found in zip((ours, theirs), results):
             found.append(run(command))
     outputs = {result[3] for found in results for result in found}
     if len(outputs) > 1:
         sys.exit("the outputs differ: " + " ".join(ours))
-    return [[statistics.median(column) for column in list(zip(*found))[:3]] for found in results]
+    return medians(results[0]), medians(results[1])
 
 
-def main():
+def main() -> None:
     arguments = argparse.ArgumentParser(description=__doc__.splitlines()[0])
     arguments.add_argument("--rounds", type=int, default=5)
     arguments.add_argument("--work")

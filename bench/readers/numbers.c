@@ -69,7 +69,8 @@ int main(int argc, char **argv) {
         if (!whole && lseek(file, 0, SEEK_SET) != 0) return 1;
         int64_t start = now();
         uint64_t sum = whole ? sum_of_text(text, text + size) : sum_of_pieces(file);
-        printf("%s sum %llu %lld ns\n", argv[2], (unsigned long long)sum, (long long)(now() - start));
+        printf("%s sum %llu %lld ns\n", argv[2], (unsigned long long)sum,
+               (long long)(now() - start));
     }
     return 0;
 }

@@ -1,50 +1,55 @@
 """Circuits, as clauses. Each function but `factor` makes two equal circuits, and asks for
 a difference."""
+from typing import List, Optional, Tuple
+
+Clauses = List[Tuple[int, ...]]
+Word = List[int]
 
 
 class Circuit:
     """Gates, as clauses. A word is a list of literals, the lowest bit first."""
 
-    def __init__(self):
-        self.variables, self.clauses = 0, []
+    def __init__(self) -> None:
+        self.variables = 0
+        self.clauses: Clauses = []
         self.true = self.fresh()
         self.add(self.true)
 
-    def fresh(self):
+    def fresh(self) -> int:
         self.variables += 1
         return self.variables
 
-    def word(self, bits):
+    def word(self, bits: int) -> Word:
         return [self.fresh() for _ in range(bits)]
 
-    def number(self, value, bits):
+    def number(self, value: int, bits: int) -> Word:
         return [self.true if value >> bit & 1 else -self.true for bit in range(bits)]
 
-    def add(self, *clause):
+    def add(self, *clause: int) -> None:
         self.clauses.append(clause)
 
-    def both(self, one, other):
+    def both(self, one: int, other: int) -> int:
         out = self.fresh()
         self.add(-one, -other, out)
         self.add(one, -out)
         self.add(other, -out)
         return out
 
-    def either(self, one, other):
+    def either(self, one: int, other: int) -> int:
         return -self.both(-one, -other)
 
-    def differ(self, one, other):
+    def differ(self, one: int, other: int) -> int:
         out = self.fresh()
         for signs in ((1, 1, -1), (1, -1, 1), (-1, 1, 1), (-1, -1, -1)):
             self.add(*(sign * literal for sign, literal in zip(signs, (one, other, out))))
         return out
 
-    def choose(self, condition, then, other):
+    def choose(self, condition: int, then: Word, other: Word) -> Word:
         """The first word if the condition is true, otherwise the second."""
         return [self.either(self.both(condition, a), self.both(-condition, b))
                 for a, b in zip(then, other)]
 
-    def sum(self, one, other, carry):
+    def sum(self, one: Word, other: Word, carry: int) -> Tuple[Word, int]:
         """The sum, with the same number of bits, and the carry."""
         bits = []
         for a, b in zip(one, other):
@@ -53,11 +58,11 @@ class Circuit:
             carry = self.either(self.both(a, b), self.both(half, carry))
         return bits, carry
 
-    def difference(self, one, other):
+    def difference(self, one: Word, other: Word) -> Tuple[Word, int]:
         """The difference, with the same number of bits, and whether it is at least zero."""
         return self.sum(one, [-bit for bit in other], self.true)
 
-    def product(self, one, other, width=None):
+    def product(self, one: Word, other: Word, width: Optional[int] = None) -> Word:
         """The product, computed row by row: all its bits, or the lowest ones."""
         width = width or len(one) + len(other)
         total = [-self.true] * width
@@ -67,31 +72,32 @@ class Circuit:
             total[place:place + len(row) + 1] = [*part, carry][:width - place]
         return total
 
-    def less(self, one, other):
+    def less(self, one: Word, other: Word) -> int:
         return -self.difference(one, other)[1]
 
-    def equal(self, one, other):
+    def equal(self, one: Word, other: Word) -> int:
         out = self.true
         for a, b in zip(one, other):
             out = self.both(out, -self.differ(a, b))
         return out
 
-    def assert_differ(self, one, other):
+    def assert_differ(self, one: Word, other: Word) -> None:
         self.add(*(self.differ(a, b) for a, b in zip(one, other)))
 
 
-def commute(bits):
+def commute(bits: int) -> Tuple[int, Clauses]:
     circuit = Circuit()
     one, other = circuit.word(bits), circuit.word(bits)
     circuit.assert_differ(circuit.product(one, other), circuit.product(other, one))
     return circuit.variables, circuit.clauses
 
 
-def divide(bits):
+def divide(bits: int) -> Tuple[int, Clauses]:
     circuit = Circuit()
     dividend, divisor = circuit.word(bits), circuit.word(bits)
     circuit.add(*divisor)
-    rest, quotient = [-circuit.true] * (bits + 1), []
+    rest = [-circuit.true] * (bits + 1)
+    quotient: Word = []
     wide = [*divisor, -circuit.true]
     for bit in reversed(dividend):
         rest = [bit, *rest[:-1]]
@@ -104,11 +110,11 @@ def divide(bits):
     return circuit.variables, circuit.clauses
 
 
-def sort(count, bits):
+def sort(count: int, bits: int) -> Tuple[int, Clauses]:
     circuit = Circuit()
     numbers = [circuit.word(bits) for _ in range(count)]
 
-    def exchange(words, place):
+    def exchange(words: List[Word], place: int) -> None:
         swaps = circuit.less(words[place + 1], words[place])
         low, high = (circuit.choose(swaps, words[place + 1], words[place]),
                      circuit.choose(swaps, words[place], words[place + 1]))
@@ -125,7 +131,7 @@ def sort(count, bits):
     return circuit.variables, circuit.clauses
 
 
-def pipeline(steps, bits, registers=4):
+def pipeline(steps: int, bits: int, registers: int = 4) -> Tuple[int, Clauses]:
     """Each step writes the sum, or the exclusive or, of two registers into a register. The pipeline
     writes the result two steps later."""
     circuit = Circuit()
@@ -133,23 +139,24 @@ def pipeline(steps, bits, registers=4):
     code = [(circuit.fresh(), circuit.word(2), circuit.word(2), circuit.word(2))
             for _ in range(steps)]
 
-    def read(words, register):
+    def read(words: List[Word], register: Word) -> Word:
         low = (circuit.choose(register[0], words[1], words[0]),
                circuit.choose(register[0], words[3], words[2]))
         return circuit.choose(register[1], low[1], low[0])
 
-    def write(words, register, value):
+    def write(words: List[Word], register: Word, value: Word) -> List[Word]:
         return [circuit.choose(circuit.equal(register, circuit.number(place, 2)), value, word)
                 for place, word in enumerate(words)]
 
-    def compute(adds, one, other):
+    def compute(adds: int, one: Word, other: Word) -> Word:
         return circuit.choose(adds, circuit.sum(one, other, -circuit.true)[0],
                               [circuit.differ(a, b) for a, b in zip(one, other)])
 
     words = start
     for adds, target, one, other in code:
         words = write(words, target, compute(adds, read(words, one), read(words, other)))
-    late, ahead = start, []
+    late = start
+    ahead: List[Tuple[Word, Word]] = []
     for adds, target, one, other in code:
         values = []
         for source in (one, other):
@@ -166,7 +173,7 @@ def pipeline(steps, bits, registers=4):
     return circuit.variables, circuit.clauses
 
 
-def factor(number):
+def factor(number: int) -> Tuple[int, Clauses]:
     """Asks for two factors of the number, both above 1, with one multiplier."""
     circuit = Circuit()
     bits = number.bit_length()
@@ -180,7 +187,7 @@ def factor(number):
     return circuit.variables, circuit.clauses
 
 
-def distribute(bits):
+def distribute(bits: int) -> Tuple[int, Clauses]:
     circuit = Circuit()
     factor, one, other = (circuit.word(bits) for _ in range(3))
     together = circuit.product(circuit.sum(one, other, -circuit.true)[0], factor, bits)
@@ -190,7 +197,7 @@ def distribute(bits):
     return circuit.variables, circuit.clauses
 
 
-def squares(bits):
+def squares(bits: int) -> Tuple[int, Clauses]:
     circuit = Circuit()
     one, other = circuit.word(bits), circuit.word(bits)
     total, difference = circuit.sum(one, other, -circuit.true)[0], circuit.difference(one, other)[0]
@@ -200,7 +207,7 @@ def squares(bits):
     return circuit.variables, circuit.clauses
 
 
-def count(bits):
+def count(bits: int) -> Tuple[int, Clauses]:
     circuit = Circuit()
     word, none = circuit.word(bits), [-circuit.true] * bits.bit_length()
     total = none

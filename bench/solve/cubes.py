@@ -58,7 +58,7 @@ def main() -> None:
             solve = [given.solve, "--lrupd", given.lrupd, "-q", "-j", given.engines]
             ways = [solve + [formula], solve + ["--cubes", cubes, formula]]
             times = [[seconds(way) for way in ways] for _ in range(given.rounds)]
-            without, with_cubes = map(min, zip(*times))
+            without, with_cubes = (min(column) for column in zip(*times))
             number = sum(line.startswith("a ") for line in cubes.read_text().splitlines())
             print(f"| {title} | {number} | {without:.1f} | {with_cubes:.1f} | "
                   f"{with_cubes / without:.2f} |", flush=True)

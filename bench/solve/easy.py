@@ -18,7 +18,9 @@ import subprocess
 import sys
 import tempfile
 from pathlib import Path
+from typing import Callable, Dict, List, Tuple
 
+Clauses = List[Tuple[int, ...]]
 VERILOG = """\
 module register(input clk, output reg [31:0] state, output wrong);
   initial state = 1;
@@ -33,13 +35,13 @@ SCRIPT = ("read_verilog {folder}/register.v; prep -top register; sat -timeout 1 
           "-set-at {steps} wrong 1 -dump_cnf {folder}/cnf")
 
 
-def units(variables):
+def units(variables: int) -> Tuple[int, Clauses]:
     """Unit propagation visits all variables, one after the other."""
     steps = [(-variable, variable + 1) for variable in range(1, variables)]
     return variables, [(1,), *steps, (-variables,)]
 
 
-def failed(steps):
+def failed(steps: int) -> Tuple[int, Clauses]:
     """Variable 1 implies variables 2 to `steps`, and the last of them a conflict; if variable 1 is
     false, two clauses conflict at once."""
     last, other = steps + 1, steps + 2
@@ -47,21 +49,21 @@ def failed(steps):
     return other, [*chain, (-steps, last), (-steps, -last), (1, other), (1, -other)]
 
 
-def corridor(cells, horizon):
+def corridor(cells: int, horizon: int) -> Tuple[int, Clauses]:
     """Someone who is in a cell at some time was there before, or walked there; a step begins in the
     current cell."""
     width = 3 * (cells + 1)
 
-    def at(cell, time):
+    def at(cell: int, time: int) -> int:
         return width * time + 3 * cell + 1
 
-    def right(cell, time):
+    def right(cell: int, time: int) -> int:
         return at(cell, time) + 1
 
-    def left(cell, time):
+    def left(cell: int, time: int) -> int:
         return at(cell, time) + 2
 
-    clauses = [(at(0, 0),), *((-at(cell, 0),) for cell in range(1, cells + 1))]
+    clauses: Clauses = [(at(0, 0),), *((-at(cell, 0),) for cell in range(1, cells + 1))]
     for time in range(horizon):
         for cell in range(cells + 1):
             reasons = ([at(cell, time)] + [right(cell - 1, time)] * (cell > 0)
@@ -74,11 +76,11 @@ def corridor(cells, horizon):
     return width * (horizon + 1), clauses
 
 
-def lfsr(bits, steps):
+def lfsr(bits: int, steps: int) -> Tuple[int, Clauses]:
     """Each step shifts the state, and adds the exclusive or of its first and its last bit."""
     state, value = list(range(1, bits + 1)), [1] + [0] * (bits - 1)
-    variables, clauses = bits, [(variable if bit else -variable,)
-                                for variable, bit in zip(state, value)]
+    variables = bits
+    clauses: Clauses = [(variable if bit else -variable,) for variable, bit in zip(state, value)]
     for _ in range(steps):
         variables += 1
         one, other = state[0], state[-1]
@@ -90,7 +92,7 @@ def lfsr(bits, steps):
     return variables, clauses
 
 
-def simulation(steps):
+def simulation(steps: int) -> str:
     """The formula as text, from yosys."""
     with tempfile.TemporaryDirectory() as name:
         folder = Path(name)
@@ -100,10 +102,11 @@ def simulation(steps):
         return (folder / "cnf").read_text()
 
 
-KINDS = {"units": (units, 1), "failed": (failed, 1), "corridor": (corridor, 2), "lfsr": (lfsr, 2)}
+KINDS: Dict[str, Tuple[Callable[..., Tuple[int, Clauses]], int]] = {
+    "units": (units, 1), "failed": (failed, 1), "corridor": (corridor, 2), "lfsr": (lfsr, 2)}
 
 
-def dimacs(kind, *numbers, backwards=False):
+def dimacs(kind: str, *numbers: int, backwards: bool = False) -> str:
     """The formula's text."""
     variables, clauses = KINDS[kind][0](*numbers)
     lines = [" ".join(map(str, clause)) + " 0"
@@ -111,7 +114,7 @@ def dimacs(kind, *numbers, backwards=False):
     return "\n".join([f"p cnf {variables} {len(lines)}", *lines, ""])
 
 
-def main():
+def main() -> None:
     kind, *words = sys.argv[1:] or [""]
     backwards = words[-1:] == ["reversed"]
     numbers = [int(word) for word in words[:len(words) - backwards] if word.isdigit()]

@@ -68,7 +68,7 @@ KINDS = {name: getattr(home, name) for home, names in (
     (planning, ("gripper", "tiles")), (classical, ("chessboard", "waerden"))) for name in names}
 
 
-def main():
+def main() -> None:
     if len(sys.argv) > 1 and sys.argv[1] in ("pigeons", "random"):
         sys.exit(subprocess.run([sys.executable, GENERATOR, *sys.argv[1:]]).returncode)
     if len(sys.argv) < 3 or sys.argv[1] not in KINDS:

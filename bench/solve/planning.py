@@ -93,8 +93,8 @@ def gripper(balls: int, count: int) -> Tuple[int, Clauses]:
                 lies, held, free = ("ball", ball, room), ("ball", ball, hand), ("free", hand)
                 actions += [action([lies, free, ("robot", room)], [held], [lies, free]),
                             action([held, ("robot", room)], [lies, free], [held])]
-    start = {("robot", "here"), *(("free", hand) for hand in hands),
-             *(("ball", ball, "here") for ball in range(balls))}
+    start: Set[Fact] = {("robot", "here"), *(("free", hand) for hand in hands),
+                        *(("ball", ball, "here") for ball in range(balls))}
     return plan(actions, start, [("ball", ball, "there") for ball in range(balls)], count)
 
 

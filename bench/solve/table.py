@@ -53,9 +53,9 @@ def arguments() -> argparse.Namespace:
                                      formatter_class=argparse.RawDescriptionHelpFormatter)
     for name, usual in (("--rounds", 3), ("--limit", 600), ("--others", math.inf)):
         parser.add_argument(name, type=type(usual), default=usual)
-    for name, usual in (("--results", ""), ("--formulas", ""), ("--engines", "1,2,4"),
-                        ("--svg", ""), ("--work", "")):
-        parser.add_argument(name, default=usual)
+    for name, word in (("--results", ""), ("--formulas", ""), ("--engines", "1,2,4"),
+                       ("--svg", ""), ("--work", "")):
+        parser.add_argument(name, default=word)
     parser.add_argument("--easy", action="store_true")
     parser.add_argument("solve")
     parser.add_argument("lrupd")
@@ -127,9 +127,9 @@ def median(results: List[Result]) -> Optional[Result]:
     if not results or any(result.status != UNSATISFIABLE for result in results):
         return None
     middle = {name: statistics.median(getattr(result, name) for result in results)
-              for name in Result._fields[2:]}
-    return Result(results[0].words, results[0].engines,
-                  **{**middle, "others": max(result.others for result in results)})
+              for name in Result._fields[4:]}
+    return Result(results[0].words, results[0].engines, UNSATISFIABLE,
+                  max(result.others for result in results), **middle)
 
 
 def shown(value: Optional[float], digits: int = 2) -> str:
@@ -179,7 +179,7 @@ def times(engines: List[int], every: List[Formula], medians: List[Medians]) -> N
     rows = [[ratio(its, count, MEASURES[title]) for count, title in columns] for its in medians]
     for formula, its, cells in zip(every, medians, rows):
         alone = its[ALONE]
-        seconds = [alone.clock, alone.processor] if alone else [None, None]
+        seconds: Cells = [alone.clock, alone.processor] if alone else [None, None]
         line(f"{formula.family}: {formula.title}", *(shown(value, 1) for value in seconds),
              *map(shown, cells), shown(most_others(its), 1))
     line("**geometric mean**", "", "",

@@ -1,10 +1,12 @@
 #!/bin/sh
 # miter.sh FILE.v FORMULA: asks, as DIMACS CNF, whether the modules `one` and `other` of the file
-# ever differ; they have no registers. Needs `yosys`. Comments name the bits of inputs and outputs,
-# for show.awk. What is undefined (x) may be 0 or 1 in each module.
+# ever differ; they have no registers. Needs `yosys`. Comments name the bits of inputs and of the
+# modules' wires, for show.awk. What is undefined (x) may be 0 or 1 in each module.
 [ $# -eq 2 ] || { echo "usage: miter.sh FILE.v FORMULA" >&2; exit 2; }
 circuit=$(yosys -q -f verilog -p "hierarchy; proc; setundef -undriven -anyseq;
-miter -equiv -flatten -make_outputs one other miter; hierarchy -top miter; flatten; techmap; opt;
-dffunmap; aigmap; write_aiger -ascii -symbols" -- "$1") || exit
-printf '%s\n' "$circuit" | sed 's/ in_/ /; s/ gold_/ one./; s/ gate_/ other./' |
+setattr -set named 1 w:* w:\$* %d i:* %d; miter -equiv -flatten one other miter;
+hierarchy -top miter; flatten; expose a:named; techmap; opt; dffunmap; aigmap;
+write_aiger -ascii -symbols" -- "$1") || exit
+printf '%s\n' "$circuit" |
+    sed '/^o.* gold_/d; /^o.* gate_/d; s/ in_/ /; s/ gold\./ one./; s/ gate\./ other./' |
     awk -v output=trigger -f "$(dirname "$0")/../aiger2cnf.awk" > "$2"

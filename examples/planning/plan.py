@@ -1,9 +1,7 @@
 #!/usr/bin/env python3
-"""Asks, as DIMACS CNF, whether a planning problem has a plan of at most STEPS steps, one action
-each.
-
-    plan.py DOMAIN PROBLEM STEPS > plan.cnf
-    plan.py --show DOMAIN PROBLEM STEPS < answer    prints the plan in an answer's `v` lines
+"""plan.py DOMAIN PROBLEM STEPS: asks, as DIMACS CNF, whether a planning problem has a plan of at
+most STEPS steps, one action each. Comments `c NAME LITERAL` name the actions of each step, such as
+move(kitchen,hall)@1, for show.awk.
 
 DOMAIN and PROBLEM are PDDL with only STRIPS: conjunctions, and `not` in effects; no types, no
 equality."""
@@ -60,12 +58,12 @@ def ground(domain, problem):
                                      for fact in facts_of] for facts_of in found)
             if all(fact in facts for fact in wants if fact[0] not in changing):
                 wants = [fact for fact in wants if fact[0] in changing]
-                actions.append((" ".join([schema["name"], *values]), wants, adds,
+                actions.append((f"{schema['name']}({','.join(values)})", wants, adds,
                                 [fact for fact in deletes if fact not in adds]))
     return facts, {tuple(fact) for fact in parts(sections[":goal"][0])}, actions
 
 
-def main(shows, domain, problem, steps):
+def main(domain, problem, steps):
     facts, goal, actions = ground(read(domain, "domain"), read(problem, "problem"))
     fluents = sorted(goal.union(*(wants + adds + deletes for _, wants, adds, deletes in actions)))
     # For each step, a variable for each fact, and for each action's number.
@@ -85,26 +83,16 @@ def main(shows, domain, problem, steps):
                            + [now[a] for a, x in enumerate(actions) if fact in x[2]])
             clauses.append([-now[fact], later[fact]]
                            + [now[a] for a, x in enumerate(actions) if fact in x[3]])
-    if shows:
-        lines = open(0, errors="replace").read().splitlines()
-        said = set({abs(x): x for line in lines if line.startswith("v ")
-                    for x in map(int, line[2:].split())}.values())
-        if "s SATISFIABLE" not in lines or any(said.isdisjoint(clause) for clause in clauses):
-            sys.exit("plan.py: no plan: the answer isn't s SATISFIABLE with an assignment of "
-                     "this formula")
-        return print(*(f"{actions[a][0]}\n" for now in at[:-1]
-                       for a in range(len(actions)) if now[a] in said),
-                     sep="", end="")
     print(f"p cnf {next(fresh) - 1} {len(clauses)}",
+          *(f"c {actions[a][0]}@{step} {now[a]}" for step, now in enumerate(at[:-1], 1)
+            for a in range(len(actions))),
           *(" ".join(map(str, clause)) + " 0" for clause in clauses), sep="\n")
 
 
-shows = sys.argv[1:2] == ["--show"]
-words = sys.argv[1 + shows:]
-if len(words) != 3 or not re.fullmatch("[0-9]+", words[2]):
-    print("usage: plan.py [--show] DOMAIN PROBLEM STEPS", file=sys.stderr)
+if len(sys.argv) != 4 or not re.fullmatch("[0-9]+", sys.argv[3]):
+    print("usage: plan.py DOMAIN PROBLEM STEPS", file=sys.stderr)
     sys.exit(2)
 try:
-    main(shows, words[0], words[1], int(words[2]))
+    main(sys.argv[1], sys.argv[2], int(sys.argv[3]))
 except Exception as fault:
-    sys.exit(f"plan.py: DOMAIN, PROBLEM or answer can't be read: {fault}")
+    sys.exit(f"plan.py: DOMAIN or PROBLEM can't be read: {fault}")

@@ -3,7 +3,7 @@
 #include "solver.h"
 
 enum { UNMARKED, SEEN, REMOVABLE, KEPT, IN_CLAUSE, RESOLVED };
-enum { DEEPEST = 500 };     // the deepest recursion of minimisation
+enum { DEEPEST = 500 };  // the deepest recursion of minimisation
 
 static void mark(Solver *solver, int variable, unsigned char what) {
     if (solver->marks[variable] == UNMARKED) PUSH(&solver->marked, variable);
@@ -11,7 +11,8 @@ static void mark(Solver *solver, int variable, unsigned char what) {
 }
 
 static void clear_marks(Solver *solver) {
-    for (size_t k = 0; k < solver->marked.length; k++) solver->marks[solver->marked.items[k]] = UNMARKED;
+    for (size_t k = 0; k < solver->marked.length; k++)
+        solver->marks[solver->marked.items[k]] = UNMARKED;
     solver->marked.length = 0;
 }
 
@@ -25,8 +26,10 @@ static int look_at(Solver *solver, const Clause *clause) {
         if (solver->marks[variable] != UNMARKED || solver->levels[variable] == 0) continue;
         mark(solver, variable, SEEN);
         bump_variable(solver, variable);
-        if (solver->levels[variable] == level_of(solver)) found++;
-        else PUSH(&solver->learnt, literal);
+        if (solver->levels[variable] == level_of(solver))
+            found++;
+        else
+            PUSH(&solver->learnt, literal);
     }
     return found;
 }
@@ -39,7 +42,8 @@ static void analyse(Solver *solver, const Clause *conflict) {
     size_t place = solver->trail.length;
     int open = look_at(solver, conflict);
     for (;;) {
-        do place--; while (solver->marks[variable_of(solver->trail.items[place])] == UNMARKED);
+        do place--;
+        while (solver->marks[variable_of(solver->trail.items[place])] == UNMARKED);
         Literal literal = solver->trail.items[place];
         if (--open == 0) {
             solver->learnt.items[0] = complement_of(literal);
@@ -53,7 +57,8 @@ static void analyse(Solver *solver, const Clause *conflict) {
 static bool redundant(Solver *solver, Literal literal, int depth) {
     int variable = variable_of(literal), seen = solver->marks[variable];
     const Clause *reason = solver->reasons[variable];
-    if (solver->levels[variable] == 0 || seen == REMOVABLE || (seen == SEEN && depth > 0)) return true;
+    if (solver->levels[variable] == 0 || seen == REMOVABLE || (seen == SEEN && depth > 0))
+        return true;
     if (seen == KEPT || reason == NULL || depth == DEEPEST) return false;
     for (unsigned k = 1; k < reason->length; k++) {
         if (redundant(solver, reason->literals[k], depth + 1)) continue;
@@ -82,10 +87,12 @@ static int need(Solver *solver, const Clause *clause, Identities *level_zero) {
     int found = 0;
     for (unsigned k = 0; k < clause->length; k++) {
         int variable = variable_of(clause->literals[k]);
-        if (solver->marks[variable] != UNMARKED) continue;      // each clause once
+        if (solver->marks[variable] != UNMARKED) continue;  // each clause once
         mark(solver, variable, RESOLVED);
-        if (solver->levels[variable] > 0) found++;
-        else PUSH(level_zero, solver->units[variable]);
+        if (solver->levels[variable] > 0)
+            found++;
+        else
+            PUSH(level_zero, solver->units[variable]);
     }
     return found;
 }
@@ -97,7 +104,7 @@ static int need(Solver *solver, const Clause *clause, Identities *level_zero) {
 // clause is no hint: all its literals would be false, so it would be a conflict too early. The unit
 // clauses of level 0 come first, in any order: they are unit at once.
 static void find_hints(Solver *solver, const Clause *conflict) {
-    Identities *hints = &solver->hints, level_zero = {0};
+    Identities *hints = &solver->hints, level_zero = { 0 };
     for (size_t k = 0; k < solver->learnt.length; k++)
         mark(solver, variable_of(solver->learnt.items[k]), IN_CLAUSE);
     hints->length = 0;

@@ -38,7 +38,8 @@ static int show_progress(void *argument) {
         char text[1024];
         int used = snprintf(text, sizeof text, "%3d s, lines:", second);
         for (int k = 0; k < portfolio->solvers; k++)
-            used += snprintf(text + used, sizeof text - (size_t)used, " %9lu", portfolio->solver[k].proof.added);
+            used += snprintf(text + used, sizeof text - (size_t)used, " %9lu",
+                             portfolio->solver[k].proof.added);
         fprintf(stderr, "%s\n", text);
     }
     return 0;
@@ -60,13 +61,20 @@ static uint64_t number_of(char **words) {
 // The first word that isn't an option.
 static char **read_options(Portfolio *portfolio, char **words, bool *progress) {
     for (; *words != NULL && strncmp(*words, "--", 2) == 0; words++) {
-        if (strcmp(*words, "--progress") == 0) *progress = true;
-        else if (strcmp(*words, "--imports") == 0) portfolio->imports = true;
-        else if (strcmp(*words, "--share") == 0) portfolio->share = (unsigned)number_of(words++);
-        else if (strcmp(*words, "--seed") == 0) portfolio->seed = number_of(words++);
-        else if (strcmp(*words, "--first") == 0) portfolio->first = (int)number_of(words++);
-        else if (strcmp(*words, "--streams") == 0) portfolio->streams = (int)number_of(words++);
-        else fail("no such option:", *words);
+        if (strcmp(*words, "--progress") == 0)
+            *progress = true;
+        else if (strcmp(*words, "--imports") == 0)
+            portfolio->imports = true;
+        else if (strcmp(*words, "--share") == 0)
+            portfolio->share = (unsigned)number_of(words++);
+        else if (strcmp(*words, "--seed") == 0)
+            portfolio->seed = number_of(words++);
+        else if (strcmp(*words, "--first") == 0)
+            portfolio->first = (int)number_of(words++);
+        else if (strcmp(*words, "--streams") == 0)
+            portfolio->streams = (int)number_of(words++);
+        else
+            fail("no such option:", *words);
     }
     return words;
 }
@@ -78,14 +86,16 @@ static void open_all(Portfolio *portfolio, char **paths) {
         solver->portfolio = portfolio;
         solver->place = k;
         solver_open(solver);
-        proof_open(&solver->proof, paths[k], portfolio->formula.clauses, portfolio->first + k, portfolio->streams);
+        proof_open(&solver->proof, paths[k], portfolio->formula.clauses, portfolio->first + k,
+                   portfolio->streams);
     }
 }
 
 static void run_all(Portfolio *portfolio) {
     thrd_t *threads = zeroed((size_t)portfolio->solvers, sizeof *threads);
     for (int k = 0; k < portfolio->solvers; k++)
-        if (thrd_create(&threads[k], work, &portfolio->solver[k]) != thrd_success) fail("cannot start", "a thread");
+        if (thrd_create(&threads[k], work, &portfolio->solver[k]) != thrd_success)
+            fail("cannot start", "a thread");
     for (int k = 0; k < portfolio->solvers; k++) thrd_join(threads[k], NULL);
 }
 
@@ -105,7 +115,8 @@ static void tell(const Portfolio *portfolio, double time) {
     unsigned long bytes = 0, imported = 0;
     for (int k = 0; k < portfolio->solvers; k++) {
         const Proof *proof = &portfolio->solver[k].proof;
-        printf("c stream %d: %lu added, %lu deleted\n", portfolio->first + k, proof->added, proof->deleted);
+        printf("c stream %d: %lu added, %lu deleted\n", portfolio->first + k, proof->added,
+               proof->deleted);
         bytes += proof->bytes;
         imported += proof->imported;
     }
@@ -113,7 +124,8 @@ static void tell(const Portfolio *portfolio, double time) {
     printf("c %lu bytes in %.2f s\n", bytes, time);
     puts(portfolio->answer == SATISFIABLE ? "s SATISFIABLE" : "s UNSATISFIABLE");
     if (portfolio->answer != SATISFIABLE) return;
-    if (!is_satisfied(&portfolio->formula, portfolio->model)) fail("the assignment satisfies", "nothing");
+    if (!is_satisfied(&portfolio->formula, portfolio->model))
+        fail("the assignment satisfies", "nothing");
     for (int k = 0; k < portfolio->formula.variables; k++)
         printf("v %d\n", portfolio->model[k] > 0 ? k + 1 : -(k + 1));
     puts("v 0");
@@ -126,16 +138,20 @@ int main(int count, char **words) {
     char **paths = read_options(&portfolio, words + 1, &progress);
     portfolio.solvers = count - (int)(paths - words) - 1;
     if (portfolio.streams == 0) portfolio.streams = portfolio.solvers;
-    if (portfolio.solvers < 1 || portfolio.first < 1 || portfolio.first + portfolio.solvers - 1 > portfolio.streams)
-        fail("usage: solver [--share LBD] [--imports] [--seed N] [--first S --streams N] [--progress]", "FORMULA STREAM...");
+    if (portfolio.solvers < 1 || portfolio.first < 1 ||
+        portfolio.first + portfolio.solvers - 1 > portfolio.streams)
+        fail("usage: solver [--share LBD] [--imports] [--seed N] [--first S --streams N] "
+             "[--progress]",
+             "FORMULA STREAM...");
     if (portfolio.solvers == 1) portfolio.share = 0;
-    signal(SIGPIPE, SIG_IGN);       // a write fails instead once the reader has closed its end
+    signal(SIGPIPE, SIG_IGN);  // a write fails instead once the reader has closed its end
     formula_read(&portfolio.formula, paths[0]);
     portfolio.solver = zeroed((size_t)portfolio.solvers, sizeof *portfolio.solver);
     open_all(&portfolio, paths + 1);
     double start = seconds();
     thrd_t thread;
-    if (progress && thrd_create(&thread, show_progress, &portfolio) != thrd_success) fail("cannot start", "a thread");
+    if (progress && thrd_create(&thread, show_progress, &portfolio) != thrd_success)
+        fail("cannot start", "a thread");
     run_all(&portfolio);
     tell(&portfolio, seconds() - start);
     return portfolio.answer;

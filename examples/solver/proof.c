@@ -6,7 +6,7 @@
 
 #include "errors.h"
 #include "solver.h"
-#include "stream.h"
+#include "line_limits.h"
 
 // With m clauses in the formula and n streams, line k of stream s has the identity m + s + k n; the
 // first line is line 0. So each solver counts on its own, and an identity shows its owner.
@@ -38,7 +38,8 @@ static void put_byte(Proof *proof, char byte) {
 static void put_number(Proof *proof, uint64_t number) {
     char digits[20];
     size_t count = 0;
-    do digits[count++] = (char)('0' + number % 10); while ((number /= 10) > 0);
+    do digits[count++] = (char)('0' + number % 10);
+    while ((number /= 10) > 0);
     while (count > 0) put_byte(proof, digits[--count]);
 }
 

@@ -35,7 +35,8 @@ static void heap_down(Solver *solver, size_t place) {
     int variable = solver->heap[place];
     for (size_t child; (child = 2 * place + 1) < solver->heap_length; place = child) {
         if (child + 1 < solver->heap_length &&
-            solver->activity[solver->heap[child + 1]] > solver->activity[solver->heap[child]]) child++;
+            solver->activity[solver->heap[child + 1]] > solver->activity[solver->heap[child]])
+            child++;
         if (solver->activity[solver->heap[child]] <= solver->activity[variable]) break;
         heap_put(solver, place, solver->heap[child]);
     }
@@ -61,7 +62,8 @@ static int heap_pop(Solver *solver) {
 void bump_variable(Solver *solver, int variable) {
     solver->activity[variable] += solver->bump;
     if (solver->activity[variable] > 1e100) {
-        for (int k = 0; k < solver->portfolio->formula.variables; k++) solver->activity[k] *= 1e-100;
+        for (int k = 0; k < solver->portfolio->formula.variables; k++)
+            solver->activity[k] *= 1e-100;
         solver->bump *= 1e-100;
     }
     if (solver->heap_place[variable] >= 0) heap_up(solver, (size_t)solver->heap_place[variable]);
@@ -133,10 +135,14 @@ static Clause *visit(Solver *solver, Literal falsified) {
         Literal first = clause->literals[0] ^ clause->literals[1] ^ falsified;
         clause->literals[0] = first;
         clause->literals[1] = falsified;
-        if (solver->values[first] > 0) list->items[kept - 1].other = first;
-        else if (watch_another(solver, clause)) kept--;
-        else if (solver->values[first] < 0) conflict = clause;
-        else assign(solver, first, clause);
+        if (solver->values[first] > 0)
+            list->items[kept - 1].other = first;
+        else if (watch_another(solver, clause))
+            kept--;
+        else if (solver->values[first] < 0)
+            conflict = clause;
+        else
+            assign(solver, first, clause);
     }
     list->length = kept;
     return conflict;
@@ -160,7 +166,8 @@ static Clause *install(Solver *solver, Clause *clause) {
         clause->literals[open++] = literal;
     }
     if (open == 0) return clause;
-    if (open == 1 && solver->values[clause->literals[0]] == 0) assign(solver, clause->literals[0], clause);
+    if (open == 1 && solver->values[clause->literals[0]] == 0)
+        assign(solver, clause->literals[0], clause);
     if (clause->length > 1) watch(solver, clause);
     return NULL;
 }
@@ -169,7 +176,7 @@ static Clause *install(Solver *solver, Clause *clause) {
 // hint, so it is left out.
 static Clause *install_formula(Solver *solver) {
     const Formula *formula = &solver->portfolio->formula;
-    Literals literals = {0};
+    Literals literals = { 0 };
     Clause *conflict = NULL;
     for (size_t k = 0; k < formula->clauses && conflict == NULL; k++) {
         formula_clause(formula, k, &literals);
@@ -187,7 +194,8 @@ static Clause *install_formula(Solver *solver) {
 static void give(Solver *solver) {
     if (solver->gifts.length == 0) return;
     proof_flush(&solver->proof);
-    for (size_t k = 0; k < solver->gifts.length; k++) outbox_give(&solver->outbox, solver->gifts.items[k]);
+    for (size_t k = 0; k < solver->gifts.length; k++)
+        outbox_give(&solver->outbox, solver->gifts.items[k]);
     solver->gifts.length = 0;
 }
 
@@ -250,8 +258,10 @@ static void reduce(Solver *solver) {
     proof_delete(&solver->proof, deleted);
     forget_watches(solver);
     for (size_t k = 0; k < clauses->length; k++) {
-        if (clauses->items[k]->removed) grow(clauses->items[k], 0);
-        else clauses->items[kept++] = clauses->items[k];
+        if (clauses->items[k]->removed)
+            grow(clauses->items[k], 0);
+        else
+            clauses->items[kept++] = clauses->items[k];
     }
     clauses->length = kept;
 }
@@ -267,7 +277,8 @@ static Clause *restart(Solver *solver) {
     go_back(solver, 0);
     solver->next_restart = solver->conflicts + RESTART_UNIT * luby(++solver->restarts);
     if (solver->conflicts >= solver->next_reduction) {
-        solver->next_reduction = solver->conflicts + REDUCTION_FIRST + REDUCTION_STEP * ++solver->reductions;
+        solver->next_reduction =
+            solver->conflicts + REDUCTION_FIRST + REDUCTION_STEP * ++solver->reductions;
         reduce(solver);
     }
     give(solver);
@@ -283,7 +294,8 @@ static void learn(Solver *solver, Clause *conflict) {
     unsigned lbd = lbd_of(solver, &solver->learnt);
     uint64_t identity = proof_add(&solver->proof, literals, length, &solver->hints);
     for (size_t k = 2; k < length; k++) {
-        if (solver->levels[variable_of(literals[k])] <= solver->levels[variable_of(literals[1])]) continue;
+        if (solver->levels[variable_of(literals[k])] <= solver->levels[variable_of(literals[1])])
+            continue;
         Literal literal = literals[k];
         literals[k] = literals[1];
         literals[1] = literal;
@@ -356,7 +368,8 @@ void solver_run(Solver *solver) {
 // Each solver begins with a different order of the variables, and with different values.
 void solver_open(Solver *solver) {
     size_t variables = (size_t)solver->portfolio->formula.variables;
-    solver->random = (solver->portfolio->seed + 1) * 0x9E3779B97F4A7C15u + (uint64_t)solver->place * 0xBF58476D1CE4E5B9u;
+    solver->random = (solver->portfolio->seed + 1) * 0x9E3779B97F4A7C15u +
+                     (uint64_t)solver->place * 0xBF58476D1CE4E5B9u;
     if (solver->random == 0) solver->random = 1;
     solver->values = zeroed(2 * variables, 1);
     solver->phases = zeroed(variables, 1);
@@ -375,7 +388,7 @@ void solver_open(Solver *solver) {
     solver->next_restart = RESTART_UNIT;
     solver->next_reduction = REDUCTION_FIRST;
     for (int k = 0; k < (int)variables; k++) {
-        int polarity = solver->place % 4;       // all false, all true, or mixed
+        int polarity = solver->place % 4;  // all false, all true, or mixed
         bool positive = polarity == 0 ? false : polarity == 1 ? true : next_random(solver) >> 63;
         solver->phases[k] = positive ? 1 : -1;
         solver->activity[k] = (double)(next_random(solver) >> 40) * 1e-9;

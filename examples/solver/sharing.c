@@ -30,7 +30,9 @@ void outbox_give(Outbox *outbox, Gift *gift) {
 
 const Gift *inbox_take(Inbox *inbox, Outbox *outbox) {
     if (inbox->taken == atomic_load_explicit(&outbox->given, memory_order_acquire)) return NULL;
-    if (inbox->taken == 0) inbox->page = outbox->first;
-    else if (inbox->taken % GIFTS_OF_A_PAGE == 0) inbox->page = inbox->page->next;
+    if (inbox->taken == 0)
+        inbox->page = outbox->first;
+    else if (inbox->taken % GIFTS_OF_A_PAGE == 0)
+        inbox->page = inbox->page->next;
     return inbox->page->gifts[inbox->taken++ % GIFTS_OF_A_PAGE];
 }

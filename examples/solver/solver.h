@@ -15,7 +15,7 @@ typedef struct {
     int file;
     const char *path;
     uint64_t next, step;  // the identity of the next line; the distance between identities
-    uint64_t last;                  // the identity of the last line
+    uint64_t last;        // the identity of the last line
     size_t used;
     char buffer[1 << 16];
     atomic_ulong added, deleted, imported, bytes;
@@ -41,8 +41,14 @@ typedef struct Page {
     struct Page *next;
 } Page;
 
-typedef struct { Page *first, *last; atomic_size_t given; } Outbox;
-typedef struct { Page *page; size_t taken; } Inbox;
+typedef struct {
+    Page *first, *last;
+    atomic_size_t given;
+} Outbox;
+typedef struct {
+    Page *page;
+    size_t taken;
+} Inbox;
 
 void outbox_open(Outbox *outbox);
 void outbox_give(Outbox *outbox, Gift *gift);
@@ -53,12 +59,15 @@ typedef struct Clause {
     uint64_t identity;
     unsigned length;
     unsigned lbd;  // the number of its literals' levels when it was learnt; 0 for the formula's
-    bool given;                 // other solvers may cite it
+    bool given;    // other solvers may cite it
     bool removed;
     Literal literals[];  // the first two are watched; a reason's first literal is the implied one
 } Clause;
 
-typedef struct { Clause *clause; Literal other; } Watch;
+typedef struct {
+    Clause *clause;
+    Literal other;
+} Watch;
 typedef LIST_OF(Watch) Watches;
 typedef LIST_OF(Clause *) Clauses;
 typedef LIST_OF(Gift *) Gifts;
@@ -68,42 +77,42 @@ typedef enum { UNKNOWN = 0, SATISFIABLE = 10, UNSATISFIABLE = 20 } Answer;
 // Shared by all solvers of the process.
 typedef struct Portfolio {
     Formula formula;
-    int solvers;                // threads, each with its stream
-    int streams, first;         // streams in all, and the first one here
-    unsigned share;             // clauses of at most this LBD are given away; 0: none
+    int solvers;         // threads, each with its stream
+    int streams, first;  // streams in all, and the first one here
+    unsigned share;      // clauses of at most this LBD are given away; 0: none
     uint64_t seed;
     bool imports;
     struct Solver *solver;
     atomic_int answer;
-    signed char *model;         // by variable, if satisfiable
+    signed char *model;  // by variable, if satisfiable
 } Portfolio;
 
 typedef struct Solver {
     Portfolio *portfolio;
-    int place;                  // from 0, in the portfolio
+    int place;  // from 0, in the portfolio
     Proof proof;
     Outbox outbox;
     Inbox *inboxes;
-    Gifts gifts;                // written, but not yet given away
+    Gifts gifts;  // written, but not yet given away
 
-    signed char *values;        // by literal: 1 true, -1 false, 0 open
-    signed char *phases;        // by variable: its last value
-    int *levels;                // by variable
+    signed char *values;  // by literal: 1 true, -1 false, 0 open
+    signed char *phases;  // by variable: its last value
+    int *levels;          // by variable
     // by variable: the clause that implied its value; NULL for decisions, and at level 0
     Clause **reasons;
-    uint64_t *units;            // by variable: the identity of its unit clause at level 0
+    uint64_t *units;  // by variable: the identity of its unit clause at level 0
     // the true literals in order; for each level, the trail's length before it
     Literals trail, decisions;
     // how far the trail is propagated; how far its unit clauses are written
     size_t propagated, named;
-    Watches *watches;           // by literal
-    Clauses clauses;            // learnt here or taken over
+    Watches *watches;  // by literal
+    Clauses clauses;   // learnt here or taken over
 
     double *activity, bump;
-    int *heap, *heap_place;     // of variables, the most active first; where each is, or -1
+    int *heap, *heap_place;  // of variables, the most active first; where each is, or -1
     size_t heap_length;
 
-    unsigned char *marks;       // learn.c's, by variable
+    unsigned char *marks;  // learn.c's, by variable
     Literals marked, learnt;
     Identities hints;
     uint64_t *level_stamps, stamp;

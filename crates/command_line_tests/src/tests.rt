@@ -311,7 +311,7 @@ static HELP: [&str; 15] = [
     "--assume <FILE>\n",
     "'s UNSATISFIABLE UNDER ASSUMPTIONS'.",
     "--checkpoint <FILE>\n",
-    "FILE, which must not be there yet,",
+    "not exist yet. A later run can take FILE as its FORMULA, and go on.",
     "--rounds <DIR>\n",
     "--serial\n",
     "--watch\n",

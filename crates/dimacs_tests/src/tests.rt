@@ -48,8 +48,9 @@ fn check_refused(rt: &(impl Abort + AllocGlobal), text: &str, why: &str) -> Resu
 }
 
 /// Texts that are refused, and why.
-static REFUSED: [(&str, &str); 30] = [
+static REFUSED: [(&str, &str); 33] = [
     ("", "no header"),
+    ("c p cnf 1 1\n1 0\n", "no header"),
     ("p cnf 1\n", "bad header"),
     ("p cnf 01 0\n", "bad header"),
     ("p cnf 00 0\n", "bad header"),
@@ -57,6 +58,7 @@ static REFUSED: [(&str, &str); 30] = [
     ("p cnf\n1 1\n", "bad header"),
     ("p cnf +1 0\n", "bad header"),
     ("p cnf 16777216 0\n", "limit"),
+    ("p cnf 0 16777216\n", "limit"),
     ("p cnf 0 99999999999999999999999\n", "limit"),
     ("p cnf 16777216 x\n", "bad header"),
     ("p cnf 1 1\n+1 0\n", "bad number in line 2"),
@@ -72,6 +74,7 @@ static REFUSED: [(&str, &str); 30] = [
     ("p cnf 0 1\n1 0\n", "variable out of range in line 2"),
     ("p cnf 1 0\n2\n", "variable out of range in line 2"),
     ("p cnf 1 1\n1\n", "open clause"),
+    ("p cnf 1 1\n1", "open clause"),
     ("p cnf 1 2\n1 0\n", "too few clauses"),
     ("p cnf 1 0\n0\n", "too many clauses in line 2"),
     ("p cnf 1 1\n1 0\n1", "too many clauses in line 3"),

@@ -1,13 +1,11 @@
 mod Places
 mod GroupLemmas
 mod AloneLemmas
-mod EarlyLemmas
 mod EmptiedLemmas
 mod RunLemmas
 mod ValidLines
 mod ValidLemmas
 mod ValidCites
-mod ValidExactly
 pub mod SwapLemmas
 mod AnyRunLines
 mod AnyRunStreams

@@ -11,9 +11,8 @@ use Rattle.lrup_model.specs.Layout.{LayoutValue, Owns}
 use Rattle.lrup_model.specs.Event as events
 use Rattle.lrup_model.specs.Event.{Event, Reply, History, stream_of, own}
 use Rattle.lrup_model.specs.State.{State, absent, live, IsRetired, retire_slot, opening, after, run, state}
-use Rattle.lrup_model.specs.History.{IsAllowed, LegalFrom, IsLegal}
+use Rattle.lrup_model.specs.History.{IsAllowed, LegalFrom}
 use Rattle.lrup_model.specs.lemmas.HistoryLemmas.{put-same, put-other, own-mine, own-other}
-use Rattle.lrup_model.specs.lemmas.EntryLemmas.{run-advances, retired_now}
 use Rattle.lrup_model.specs.lemmas.OwnerLemmas.{IsOwned, owned}
 use Rattle.lrup_model.specs.declared.clause_map.Published.TheVariants as publishing
 use Rattle.lrup_model.specs.declared.clause_map.Retired.TheVariants as retiring
@@ -24,11 +23,10 @@ use Rattle.stream_check.specs.Laws.{cited_by, FetchesOnly, CitedFetched}
 use Rattle.stream_check.specs.Streams.{stream_params}
 use Rattle.stream_check.specs.lemmas.StreamLemmas.{observed_from, observed_begins}
 use Rattle.stream_check.specs.Closed.{CiteWithin}
-use Rattle.run_laws.specs.Premises.{FindsKept, FindsUnretired, MeetsUnretired, IsRetireOf, HistoryRetires, cites, deletes, Cites}
+use Rattle.run_laws.specs.Premises.{FindsKept, MeetsUnretired, IsRetireOf, HistoryRetires, cites, deletes, Cites}
 use Rattle.run_laws.specs.Premises.{SomeLineDeletes}
-use Rattle.run_laws.specs.OrderLaws.{KeptByEvents, OwnersAloneSuffices, SharedStays, BeginningsCite, ReadersShare, RetiresOnly}
+use Rattle.run_laws.specs.OrderLaws.{OwnersAloneSuffices, SharedStays, BeginningsCite, ReadersShare, RetiresOnly}
 use Rattle.run_laws.specs.OrderLaws.{DeletedRetired}
-use Rattle.run_laws.proofs.SwapLemmas.{gone_stays}
 use Rattle.run_laws.proofs.WalkLemmas.{own-calls}
 use Rattle.run_laws.proofs.StreamLemmas.{IsJudgedStream, judged_stream, is_inside, inside_owner, fetched_inside}
 
@@ -76,50 +74,22 @@ opening_retires f h id is_dropped =
       | inr retires ↦ retires
     ]
 
--- An identity that a legal history retires is still retired at its end
+-- Only owners find what is retired
 
-retired_at : (f : Cnf) (p : LayoutValue) (m : State) (e : Event) (id : ℕ) (h : History)
-    → LegalFrom f p m (e ∷ h) → IsRetireOf id e → IsRetired (after m e id)
-retired_at f p m (events.fetch s j r) id h legal is = absurd is
-retired_at f p m (events.publish s j c r) id h legal is = absurd is
-retired_at f p m (events.retire s j retiring.Done) id h legal is =
-    subst IsRetired (sym (put-same m j (retire_slot (m j)) id (sym is))) (retired_now (m j) legal.0)
-retired_at f p m (events.retire s j retiring.NotLive) id h legal is = absurd is
+kept_found : (f : Cnf) (p : LayoutValue) (h : History) (e : Event) → MeetsUnretired p h e → FindsKept p (state f h) e
+kept_found f p h (events.fetch s id events.vacant) meets = tt
+kept_found f p h (events.fetch s id (events.live c)) meets = λ other is_dropped. meets tt other (opening_retires f h id is_dropped)
+kept_found f p h (events.fetch s id events.retired) meets = tt
+kept_found f p h (events.publish s id c r) meets = tt
+kept_found f p h (events.retire s id r) meets = tt
 
-retires_gone : (f : Cnf) (p : LayoutValue) (m : State) (h : History) (id : ℕ) → LegalFrom f p m h → HistoryRetires h id
-    → IsRetired (run m h id)
-retires_gone f p m [] id legal retires = absurd retires
-retires_gone f p m (e ∷ h) id legal (inl here) =
-    gone_stays (after m e id) (run (after m e) h id) (run-advances f p (after m e) h id legal.2) (retired_at f p m e id h legal here)
-retires_gone f p m (e ∷ h) id legal (inr later) = retires_gone f p (after m e) h id legal.2 later
+all_kept : (f : Cnf) (p : LayoutValue) (h : History) (es : History)
+    → AllByRecursion (MeetsUnretired p h) es → AllByRecursion (FindsKept p (state f h)) es
+all_kept f p h [] all = tt
+all_kept f p h (e ∷ es) all = (kept_found f p h e all.0, all_kept f p h es all.1)
 
-pub kept_by_events : KeptByEvents
-kept_by_events f p h legal (events.fetch s id events.vacant) = ((λ kept. tt), (λ kept. tt))
-kept_by_events f p h legal (events.fetch s id (events.live c)) = (
-  λ kept other retires. kept other (retires_gone f p (opening f) h id legal.events retires),
-  λ kept other is_dropped. kept other (opening_retires f h id is_dropped),
-)
-kept_by_events f p h legal (events.fetch s id events.retired) = ((λ kept. tt), (λ kept. tt))
-kept_by_events f p h legal (events.publish s id c r) = ((λ kept. tt), (λ kept. tt))
-kept_by_events f p h legal (events.retire s id r) = ((λ kept. tt), (λ kept. tt))
-
--- Only owners retire
-
-less_found : (p : LayoutValue) (h : History) (e : Event) → MeetsUnretired p h e → FindsUnretired p h e
-less_found p h (events.fetch s id events.vacant) meets = tt
-less_found p h (events.fetch s id (events.live c)) meets = meets tt
-less_found p h (events.fetch s id events.retired) meets = tt
-less_found p h (events.publish s id c r) meets = tt
-less_found p h (events.retire s id r) meets = tt
-
-all_kept : KeptByEvents → (f : Cnf) (p : LayoutValue) (h : History) → IsLegal f p h
-    → (es : History) → AllByRecursion (MeetsUnretired p h) es → AllByRecursion (FindsKept p (state f h)) es
-all_kept law f p h legal [] all = tt
-all_kept law f p h legal (e ∷ es) all =
-    ((law f p h legal e).1 (less_found p h e all.0), all_kept law f p h legal es all.1)
-
-pub owners_alone_suffices : KeptByEvents → OwnersAloneSuffices
-owners_alone_suffices law f p set h legal alone s is member = all_kept law f p h legal (own h s) (alone s is member)
+pub owners_alone_suffices : OwnersAloneSuffices
+owners_alone_suffices f p set h alone s is member = all_kept f p h (own h s) (alone s is member)
 
 -- Who retires an identity
 

@@ -9,14 +9,13 @@ use Rattle.lrup_model.specs.Formula.{Cnf}
 use Rattle.lrup_text.specs.declared.device.StreamEnd.TheVariants as stream_ends
 use Rattle.stream_check.specs.declared.report.Report.{Report}
 use Rattle.stream_check.specs.Judging.{joined}
-use Rattle.stream_check.specs.Laws.{BlocksGoAlike, DecidedBeforeFailure, LegalNeverFork, OneReport, FinishedStays}
+use Rattle.stream_check.specs.Laws.{BlocksGoAlike, DecidedBeforeFailure, LegalNeverFork, OneReport}
 use Rattle.stream_check.specs.Closed.{IsOfStream}
 use Rattle.stream_check.specs.Streams.{Stream, JudgesStream, blocks_of, AreJudged, RunParamsValue, stream_params}
 use Rattle.stream_check.specs.lemmas.EachLemmas.{each_at, each_count}
 use Rattle.stream_check.specs.lemmas.StreamLemmas.{observed_count}
 use Rattle.stream_check.specs.Turns.{IsOrderedRoundRobin}
-use Rattle.run_laws.specs.TurnsLaws.{BytesDecide, TurnsDecide}
-use Rattle.run_laws.proofs.AloneLemmas.{judged_whole}
+use Rattle.run_laws.specs.TurnsLaws.{BytesDecide}
 use Rattle.run_laws.proofs.OneOrder.{JudgedTwice, same_order}
 use Rattle.run_laws.proofs.Places.{has_place}
 use Rattle.run_laws.proofs.RunLemmas.{fine_failure, fine_memory, judged_to, observed_at}
@@ -97,34 +96,6 @@ module _ (alike : BlocksGoAlike) (forks : LegalNeverFork) (one : OneReport) (f :
       let same = one (stream_params run_params s) j.bytes j.end (blocks_of s a.order.blocks) (blocks_of s b.order.blocks) j.report j.other
       (ap (λ bs. joined (blocks_of s bs)) orders_same) j.first j.second j.memory j.none in
       sym twice.1 ∙ same.1 ∙ twice.2)
-
-pub turns_decide : FinishedStays → OneReport → LegalNeverFork → BlocksGoAlike → TurnsDecide
-turns_decide stays one forks alike f run_params streams others reports other_reports readings a b memory none =
-    let both : (s : ℕ) (stream other : Stream) (report other_report : Report)
-    → IsOfStream streams s stream → IsOfStream others s other → IsOfStream reports s report → IsOfStream other_reports s other_report
-    → (j : JudgedTwice (stream_params run_params s) (blocks_of s a.order.blocks) (blocks_of s b.order.blocks)) × (j.report ≡ report)
-    × (j.other ≡ other_report) =
-    λ s stream other report other_report at there says also.
-    let c = stream_params run_params s in
-    let reading = readings s stream other at there in (
-      record {
-        bytes = reading.0;
-        end = reading.1;
-        report = report;
-        other = other_report;
-        first = judged_whole stays c stream.end stream.bytes reading.0 reading.1 (blocks_of s a.order.blocks) report reading.2
-            (own_at run_params (λ t. blocks_of t a.order.blocks) s streams reports stream report a.order.judged at says);
-        second = judged_whole stays c other.end other.bytes reading.0 reading.1 (blocks_of s b.order.blocks) other_report reading.3
-            (own_at run_params (λ t. blocks_of t b.order.blocks) s others other_reports other other_report b.order.judged there also);
-        memory = memory s report refl says;
-        none = none s other_report refl also;
-      },
-      refl,
-      refl,
-    ) in (
-      orders_same alike forks one f run_params streams others reports other_reports a b both,
-      reports_same alike forks one f run_params streams others reports other_reports a b both,
-    )
 
 pub bytes_decide : DecidedBeforeFailure → OneReport → LegalNeverFork → BlocksGoAlike → BytesDecide
 bytes_decide decided one forks alike f run_params observed other_observed reports other_reports same x y a b fine good =

@@ -65,15 +65,6 @@ alone_valid p s (line ∷ lines) bases valid = (
       (alone_valid p s lines (after_step p (record { stream = s; line = line }) bases) valid.1),
 )
 
-pub order_of_one : (p : LayoutValue) (s : ℕ) (lines : List StreamLine) (bases : ℕ → Database)
-    → AreValid p s (bases s) lines → AreValidTogether p bases (steps_of s lines)
-order_of_one p s [] bases valid = tt
-order_of_one p s (line ∷ lines) bases valid = (
-  valid.0,
-  order_of_one p s lines (after_step p (record { stream = s; line = line }) bases)
-      (subst (λ (base : Database). AreValid p s base lines) (sym (after_own p s line bases)) valid.1),
-)
-
 -- Who owns an identity
 
 -- the identity belongs to the formula or to a stream

@@ -1,5 +1,5 @@
 -- Laws of groups of streams. Each is the contract of a function in a module of laws.
-use Rattle.std.specs.Prelude.{◌≡◌, ◌≢◌, ◌++◌, ℕ, Bool, true, false, List, [], length, Some, None}
+use Rattle.std.specs.Prelude.{◌≡◌, ◌++◌, ℕ, Bool, true, false, List, [], length, Some}
 use Rattle.std.specs.List.{AllZip}
 use Rattle.lrup_model.specs.Formula.{Cnf}
 use Rattle.lrup_model.specs.Layout.{LayoutValue, Fits}
@@ -8,10 +8,9 @@ use Rattle.lrup_model.specs.History.{IsLegal}
 use Rattle.stream_check.specs.declared.report.Report.{Report}
 use Rattle.lrup_text.specs.declared.device.StreamEnd.{StreamEnd}
 use Rattle.lrup_text.specs.declared.device.StreamEnd.TheVariants as stream_ends
-use Rattle.stream_check.specs.Excuses.{CutOff, OutOfMemory, ReadFailed, IsExcused}
+use Rattle.stream_check.specs.Excuses.{CutOff, OutOfMemory, IsExcused}
 use Rattle.stream_check.specs.declared.report.Ending.TheVariants as endings
-use Rattle.stream_check.specs.StreamParams.{StreamParams}
-use Rattle.stream_check.specs.Streams.{Stream, InputObservation, RunParamsValue, MatchesInput, JudgesStream}
+use Rattle.stream_check.specs.Streams.{Stream, InputObservation, RunParamsValue, MatchesInput}
 use Rattle.stream_check.specs.SequentialConsistency.{AreJudgedIn}
 use Rattle.stream_check.specs.Closed.{IsOfStream, CiteWithin, IsClosed}
 use Rattle.run_laws.specs.Groups.{one, AreClosedReaders, NoneExcused, IsGroup, AreIsolated, with_others, IsRun, IsReadingOf}
@@ -76,13 +75,6 @@ abbrev pub RunIsolated : Type 0
 RunIsolated = (f : Cnf) (run_params : RunParamsValue) (observed : List InputObservation)
     (reports : List Report)
     → Fits run_params.layout f → (run : IsRun f run_params observed reports) → AreIsolated run
-
--- if a stream was stopped early, its report says neither that the stream ended nor that a read
--- failed: a line is bad, or memory ran out
-abbrev pub EarlyIsDecided : Type 0
-EarlyIsDecided = (c : StreamParams) (stream : Stream) (blocks : List History) (report : Report)
-    → stream.end ≡ None → JudgesStream c stream blocks report
-    → (report.ending ≢ endings.Ended) × ¬ IsExcused ReadFailed report
 
 -- if a reader hasn't failed, its stream is a reading of the bytes that the reader had at the start,
 -- with the end `Ended`

@@ -1,11 +1,10 @@
 -- Laws of the order of lines. Each is the contract of a function in a module of laws.
-use Rattle.std.specs.Prelude.{◌≡◌, ◌↔◌, ◌++◌, ℕ, Bool, true, IsTrue, List, length}
+use Rattle.std.specs.Prelude.{◌≡◌, ◌++◌, ℕ, Bool, true, IsTrue, List, length}
 use Rattle.std.specs.List.{AllByRecursion, AllZip}
 use Rattle.lrup_model.specs.Formula.{Cnf}
 use Rattle.lrup_model.specs.Layout.{LayoutValue, Fits, IsStream}
 use Rattle.lrup_model.specs.Event as events
 use Rattle.lrup_model.specs.Event.{Event, History, own}
-use Rattle.lrup_model.specs.State.{state}
 use Rattle.lrup_model.specs.History.{IsLegal}
 use Rattle.lrup_model.specs.Laws.{FindsWithin}
 use Rattle.lrup_text.specs.Lines.{StreamLine, Cut}
@@ -19,7 +18,7 @@ use Rattle.stream_check.specs.SequentialConsistency.{AreJudgedIn}
 use Rattle.stream_check.specs.Closed.{IsClosed}
 use Rattle.run_laws.specs.Groups.{IsRun}
 use Rattle.run_laws.specs.Lines.{IsLineBlock, IsOrder}
-use Rattle.run_laws.specs.Premises.{FindsKept, FoundStays, FindsUnretired, MeetsUnretired, Cites, SomeLineDeletes, KeepShared, ReadersKeepShared}
+use Rattle.run_laws.specs.Premises.{FoundStays, MeetsUnretired, Cites, SomeLineDeletes, KeepShared, ReadersKeepShared}
 use Rattle.run_laws.specs.Serializable.{ComeToVerdict, IsSerializable}
 
 -- The lines of a stream
@@ -88,17 +87,10 @@ AllOrdered = (f : Cnf) (run_params : RunParamsValue) (h : History)
 
 -- The premise of these laws
 
--- whether an event's clause is retired in the end can be read off the final state or off the events
--- of a legal history
-abbrev pub KeptByEvents : Type 0
-KeptByEvents = (f : Cnf) (p : LayoutValue) (h : History) → IsLegal f p h
-    → (e : Event) → FindsKept p (state f h) e ↔ FindsUnretired p h e
-
 -- if the history retires no identity that a stream of the set found, live or retired, and doesn't
 -- own, then each clause that a stream of the set found live and doesn't own stays live
 abbrev pub OwnersAloneSuffices : Type 0
 OwnersAloneSuffices = (f : Cnf) (p : LayoutValue) (set : ℕ → Bool) (h : History)
-    → IsLegal f p h
     → ((s : ℕ) → IsStream p s → IsTrue (set s) → AllByRecursion (MeetsUnretired p h) (own h s))
     → FoundStays f p set h
 

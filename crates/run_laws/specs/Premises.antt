@@ -43,12 +43,6 @@ abbrev pub HistoryRetires : History → ℕ → Type 0
 HistoryRetires [] id = ⊥
 HistoryRetires (event ∷ history) id = IsRetireOf id event ⊎ HistoryRetires history id
 
--- if the event found a live identity that isn't the stream's own, the history doesn't retire it
-abbrev pub FindsUnretired : LayoutValue → History → Event → Type 0
-FindsUnretired layout history (events.fetch s id (events.live clause)) =
-    ¬ Owns layout s id → ¬ HistoryRetires history id
-FindsUnretired layout history _ = Unit {0}
-
 -- if the event found an identity, live or retired, that isn't the stream's own, the history doesn't
 -- retire it
 abbrev pub MeetsUnretired : LayoutValue → History → Event → Type 0

@@ -5,31 +5,15 @@ use Rattle.std.specs.List.{flat_map}
 use Rattle.lrup_model.specs.Formula.{Cnf, IsCnf}
 use Rattle.lrup_model.specs.Layout.{Fits}
 use Rattle.lrup_text.specs.Lines.{line_text}
-use Rattle.lrup_text.specs.declared.device.StreamEnd.{StreamEnd}
 use Rattle.stream_check.specs.declared.report.Report.{Report}
-use Rattle.stream_check.specs.Excuses.{CutOff, OutOfMemory}
+use Rattle.stream_check.specs.Excuses.{CutOff}
 use Rattle.stream_check.specs.Closed.{IsOfStream}
-use Rattle.stream_check.specs.Streams.{Stream, InputObservation, RunParamsValue}
+use Rattle.stream_check.specs.Streams.{InputObservation, RunParamsValue}
 use Rattle.stream_check.specs.Turns.{IsRoundRobin, IsOrderedRoundRobin}
-use Rattle.run_laws.specs.Groups.{IsReadingOf, IsRun, NoneExcused}
+use Rattle.run_laws.specs.Groups.{IsRun, NoneExcused}
 use Rattle.run_laws.specs.Valid.{valid_report}
 use Rattle.run_laws.specs.Valid.{Step}
 use Rattle.run_laws.specs.Together.{IsValidOrder, lines_by}
-
--- If two lists of streams are readings of the same bytes and ends, their orders that take the
--- streams in turn are the same, and so are their reports, unless memory ran out.
-abbrev pub TurnsDecide : Type 0
-TurnsDecide = (f : Cnf) (run_params : RunParamsValue) (streams others : List Stream)
-    (reports other_reports : List Report)
-    → ((s : ℕ) (stream other : Stream)
-    → IsOfStream streams s stream → IsOfStream others s other
-    → (whole : List ℕ) × (end : StreamEnd) × IsReadingOf whole end stream
-    × IsReadingOf whole end other)
-    → (a : IsOrderedRoundRobin f run_params streams reports)
-    → (b : IsOrderedRoundRobin f run_params others other_reports)
-    → NoneExcused (λ s. true) OutOfMemory reports
-    → NoneExcused (λ s. true) OutOfMemory other_reports
-    → (a.order.blocks ≡ b.order.blocks) × (reports ≡ other_reports)
 
 -- Two runs of one formula on one thread, with the same parameters, have the same reports if their
 -- readers have the same bytes at the start, unless memory ran out or a read failed.

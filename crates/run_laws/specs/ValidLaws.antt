@@ -1,15 +1,14 @@
 -- Laws of valid proofs. Each is the contract of a function in a module of laws.
 use Rattle.std.specs.Prelude.{◌≡◌, ◌⊎◌, ◌↔◌, ◌≤◌, ◌++◌, ℕ, Bool, IsTrue, List, length, Some}
-use Rattle.std.specs.List.{AllByRecursion, Any, sum_by}
+use Rattle.std.specs.List.{Any, sum_by}
 use Rattle.lrup_model.specs.Formula.{Cnf, IsCnf}
 use Rattle.lrup_model.specs.Layout.{LayoutValue, IsLayout, Fits, IsStream}
-use Rattle.lrup_text.specs.Lines.{StreamLine, Cut}
+use Rattle.lrup_text.specs.Lines.{StreamLine}
 use Rattle.lrup_text.specs.declared.device.StreamEnd.TheVariants as stream_ends
-use Rattle.stream_check.specs.declared.report.Ending.TheVariants as endings
 use Rattle.stream_check.specs.declared.report.Report.{Report}
 use Rattle.stream_check.specs.Excuses.{CutOff, IsExcused, IsExcusedAt}
 use Rattle.stream_check.specs.StreamContext.{deleted_by}
-use Rattle.stream_check.specs.Closed.{IsOfStream, IsOwnedWithin, CiteWithin}
+use Rattle.stream_check.specs.Closed.{IsOfStream, CiteWithin}
 use Rattle.stream_check.specs.Streams.{InputObservation, RunParamsValue}
 use Rattle.run_laws.specs.Groups.{one, IsReportAlone, IsRun}
 use Rattle.run_laws.specs.Valid.{AddsEmpty, IsValidProof, SaysAtLeast, valid_report}
@@ -75,19 +74,6 @@ ValidCounted =
     → IsCnf f → IsLayout run_params.layout → Fits run_params.layout f → IsStream run_params.layout s
     → IsValidProof f run_params.layout s bytes lines
     → (valid_report run_params s lines).deleted ≡ sum_by (λ line. length (deleted_by line)) lines
-
--- Conversely, a stream that cites, imports and deletes only its own clauses and the formula's is
--- valid if, on its own, it may have a report that says that it ended. (A stream that deletes what
--- another stream never had may also end, but isn't valid.)
-abbrev pub EndedIsValid : Type 0
-EndedIsValid = (f : Cnf) (run_params : RunParamsValue) (s : ℕ) (bytes rest : List ℕ)
-    (all : List StreamLine) (report : Report)
-    → Fits run_params.layout f
-    → CiteWithin run_params.layout (one s) bytes → Cut bytes all rest
-    → AllByRecursion
-    (λ line. AllByRecursion (IsOwnedWithin run_params.layout (one s)) (deleted_by line)) all
-    → IsReportAlone f run_params s bytes stream_ends.Ended report → report.ending ≡ endings.Ended
-    → (lines : List StreamLine) × IsValidProof f run_params.layout s bytes lines
 
 -- the report says 'empty' exactly if some line adds the empty clause
 abbrev pub ValidEmpty : Type 0

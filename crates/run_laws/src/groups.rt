@@ -1,6 +1,6 @@
 //! Laws of groups. Each function does nothing: its contract is the law, which holds for every
 //! formula, layout, set and run.
-ghost use Rattle.run_laws.specs.GroupLaws.{BeginningsWithin, ReadersClosed, ClosedIsGroup, OthersEmpty, AloneHasOneReport, RunIsolated, EarlyIsDecided, MatchIsReading, FailedIsReading, SameReadingAgrees, SameBytesAgree};
+ghost use Rattle.run_laws.specs.GroupLaws.{BeginningsWithin, ReadersClosed, ClosedIsGroup, OthersEmpty, AloneHasOneReport, RunIsolated, MatchIsReading, FailedIsReading, SameReadingAgrees, SameBytesAgree};
 
 use lrup_text::laws::{a_beginning_is_cut_alike, every_stream_is_cut};
 use stream_check::laws::{
@@ -54,11 +54,6 @@ pub fn run_isolated()
     closed_is_group();
     alone_has_one_report();
 }
-
-/// A stream that was stopped early has a bad line or ran out of memory.
-pub fn early_is_decided()
-    ensures { EarlyIsDecided }
-{}
 
 /// If a reader hasn't failed, its stream is a reading of the bytes that the reader had left at the
 /// start.

@@ -1,6 +1,6 @@
 //! Laws of the order of lines. Each function does nothing: its contract is the law, which holds for
 //! every formula, layout, set and history.
-ghost use Rattle.run_laws.specs.OrderLaws.{JudgedBlocks, DeletedRetired, LinesOrdered, ClosedOrdered, AllClosed, AllOrdered, KeptByEvents, OwnersAloneSuffices, SharedStays, BeginningsCite, ReadersShare, RunSerializable};
+ghost use Rattle.run_laws.specs.OrderLaws.{JudgedBlocks, DeletedRetired, LinesOrdered, ClosedOrdered, AllClosed, AllOrdered, OwnersAloneSuffices, SharedStays, BeginningsCite, ReadersShare, RunSerializable};
 
 use lrup_text::laws::{a_beginning_is_cut_alike, bytes_begin_with_one_line, every_stream_is_cut};
 use stream_check::laws::{cited_fetched, early_events, reduced_stream, vacant_tries_again};
@@ -53,19 +53,11 @@ pub fn all_ordered()
     all_closed();
 }
 
-/// Whether a clause that was found live stays live can be read off the events or off the final
-/// state.
-pub fn kept_by_events()
-    ensures { KeptByEvents }
-{}
-
 /// If each identity that the history retires was found only by its owner, each clause of another
 /// stream that a stream found live stays live.
 pub fn owners_alone_suffices()
     ensures { OwnersAloneSuffices }
-{
-    kept_by_events();
-}
+{}
 
 /// If no stream deletes an identity of its own that a line of another stream cites, each clause of
 /// another stream that a stream found live stays live.

@@ -1,23 +1,12 @@
 //! Laws of runs on one thread. Each function does nothing: its contract is the law, which holds for
 //! every formula and run.
-ghost use Rattle.run_laws.specs.TurnsLaws.{BytesDecide, ValidRoundRobin, TurnsDecide};
+ghost use Rattle.run_laws.specs.TurnsLaws.{BytesDecide, ValidRoundRobin};
 
 use lrup_text::laws::{a_stream_is_cut_in_one_way, no_bytes_have_no_lines};
 use stream_check::laws::{
-    blocks_go_alike, decided_before_failure, end_judged, finished_stays, fresh_left,
-    good_line_taken, legal_never_fork, one_report,
+    blocks_go_alike, decided_before_failure, end_judged, fresh_left, good_line_taken,
+    legal_never_fork, one_report,
 };
-
-/// If two lists of streams are readings of the same bytes and ends, their orders that take the
-/// streams in turn are the same, and so are their reports, unless memory ran out.
-pub fn turns_decide()
-    ensures { TurnsDecide }
-{
-    finished_stays();
-    one_report();
-    legal_never_fork();
-    blocks_go_alike();
-}
 
 /// Two runs on one thread over the same bytes have the same reports, unless memory ran out or a
 /// read failed.

@@ -2,7 +2,7 @@
 //! formula, layout, stream and run.
 ghost use Rattle.run_laws.specs.AnyRun.{ValidInAnyRun};
 ghost use Rattle.run_laws.specs.Together.{ValidTogether, TogetherBegins};
-ghost use Rattle.run_laws.specs.ValidLaws.{ValidCiteWithin, ValidAccepted, ValidHasOneReport, ValidReported, ValidBegins, ValidCounted, EndedIsValid, ValidEmpty};
+ghost use Rattle.run_laws.specs.ValidLaws.{ValidCiteWithin, ValidAccepted, ValidHasOneReport, ValidReported, ValidBegins, ValidCounted, ValidEmpty};
 
 use crate::groups::{alone_has_one_report, beginnings_within, closed_is_group};
 use lrup_text::laws::{
@@ -10,8 +10,8 @@ use lrup_text::laws::{
     bytes_begin_with_one_line, no_bytes_have_no_lines, no_bytes_may_become_a_line,
 };
 use stream_check::laws::{
-    alone_decides, cited_fetched, counts_within, decided_before_failure, end_judged,
-    finished_stays, fresh_left, good_line_taken,
+    alone_decides, cited_fetched, counts_within, decided_before_failure, end_judged, fresh_left,
+    good_line_taken,
 };
 
 /// A valid proof cites only its own clauses and the formula's.
@@ -82,16 +82,6 @@ pub fn valid_counted()
     no_bytes_have_no_lines();
     a_stream_is_cut_in_one_way();
     counts_within();
-}
-
-/// A stream that cites, imports and deletes only its own clauses and the formula's is valid if, on
-/// its own, it may have a report that says that it ended.
-pub fn ended_is_valid()
-    ensures { EndedIsValid }
-{
-    finished_stays();
-    a_stream_is_cut_in_one_way();
-    no_bytes_have_no_lines();
 }
 
 /// The report of a valid proof says 'empty' exactly if some line adds the empty clause.

@@ -13,38 +13,14 @@ fn assert_bad(rt: &impl Host, words: &str, bad: Bad, status: u8) -> Result<(), F
     assert_reports(rt, words, Setup::of(&[stream]), &[said.as_str()], status)
 }
 
-static BAD: [Bad; 17] = [
-    ("5 2 0 2 3 0\n", 0, 0, 1, "not unit 3"),
-    ("5 2 0 1 2 3 0\n", 0, 0, 1, "excess 3"),
-    ("5 2 0 1 0\n", 0, 0, 1, "no conflict"),
-    ("5 2 0 0\n", 0, 0, 1, "no conflict"),
-    ("5 1 0 -2 0\n", 0, 0, 1, "rat hint"),
-    ("5 2 0 1 2 0\n5 d 5 0\n6 0 5 3 4 0\n", 1, 1, 3, "retired 5"),
-    ("5 2 0 1 2 0\n5 d 5 5 0\n", 1, 1, 2, "not live 5"),
-    ("5 d 1 1 0\n", 0, 1, 1, "not live 1"),
-    ("5 2 0 1 2 0", 0, 0, 1, "truncated"),
-    ("5  2 0 1 2 0\n", 0, 0, 1, "spelling"),
-    ("7 2 0 1 2 0\n6 0 7 3 4 0\n", 1, 0, 2, "identity"),
-    ("5 d 1 0\n5 2 0 1 2 0\n", 0, 1, 2, "dropped 1"),
-    ("5 1 -1 0 1 0\n", 0, 0, 1, "tautology"),
-    ("5 3 -3 0 1 0\n", 0, 0, 1, "literal"),
-    ("1000000000000000000 2 0 1 2 0\n", 0, 0, 1, "too long"),
-    ("999999999999999999 2 0 1 2 0\n", 0, 0, 1, "identity"),
-    ("5 2 0 5 0\n", 0, 0, 1, "missing 5"),
-];
-
 /// Streams that have too few identities, or too little room.
-static SCARCE: [(&str, Bad); 3] = [
+static SCARCE: [(&str, Bad); 2] = [
     ("--lines 1 f 1", (REFUTES, 1, 0, 2, "identity")),
-    ("--room 0 f 1", ("5 0 1 0\n", 0, 0, 1, "not unit 1")),
     ("--room 0 f 1", (ADDS, 0, 0, 1, "no room")),
 ];
 
 #[test]
 fn bad_lines(rt: HostRuntime) -> Result<(), Fail> {
-    for &bad in &BAD {
-        assert_bad(&rt, "f 1", bad, 3)?;
-    }
     for &(words, bad) in &SCARCE {
         assert_bad(&rt, words, bad, 3)?;
     }
@@ -53,12 +29,9 @@ fn bad_lines(rt: HostRuntime) -> Result<(), Fail> {
     assert_bad(&rt, "f 1", (after, 2, 0, 3, "no conflict"), 0)
 }
 
-const NOT_ITS_OWN: &str = "0 added, 0 deleted, bad line 1 (identity)";
-
 /// The words, the formula, the streams, their lines in the report, and the status.
-static ENDED: [(&str, &str, &[&str], &[&str], u8); 6] = [
+static ENDED: [(&str, &str, &[&str], &[&str], u8); 4] = [
     ("f 1", FOUR, &[REFUTES], &[TWO_ADDED], 0),
-    ("--room 1 f 1", FOUR, &["5 2 2 0 1 2 0\n"], &[ONE_ADDED], 3),
     ("f 1", "p cnf 0 1\n0\n", &["2 0 1 0\n"], &[ONE_ADDED], 0),
     ("f 1", "p cnf 0 0\n", &[""], &[NOTHING], 3),
     (
@@ -67,13 +40,6 @@ static ENDED: [(&str, &str, &[&str], &[&str], u8); 6] = [
         &["5 2 0 1 2 0\n7 0 5 6 0\n", "6 -2 0 3 4 0\n"],
         &[TWO_ADDED, ONE_ADDED],
         0,
-    ),
-    (
-        "f 1 2",
-        FOUR,
-        &["6 2 0 1 2 0\n", ""],
-        &[NOT_ITS_OWN, NOTHING],
-        3,
     ),
 ];
 
@@ -133,6 +99,8 @@ fn serial_alone_is_on_one_thread(rt: HostRuntime) -> Result<(), Fail> {
     }
     Ok(())
 }
+
+const NOT_ITS_OWN: &str = "0 added, 0 deleted, bad line 1 (identity)";
 
 /// The words, stream 1, the lines in the report, and what is opened.
 static OPENED: [(&str, &str, &[&str], &str); 3] = [

@@ -83,9 +83,9 @@ fn cubes_are_read(rt: HostRuntime) -> Result<(), AllocError> {
 
 /// Misspelled texts, separated by `|`; in the last texts, a variable out of range comes before the
 /// misspelling.
-const MISSPELLED: &str = "|\n|-2 0|+2 0\n|-2 0\n0\n|-2 0\n\n|-2 0\r\n|-2  0\n| -2 0\n|-2 0 \n|\
-    -2\t0\n|-2 00\n|02 0\n|-0 0\n|- 2 0\n|--2 0\n|-2 d 0\n|1,2 0\n|1 0 2 0\n|c\n-2 0\n|0\n-2 0\n|\
-    3 0|3 x|3 02 1111111111111111111 0\n|999999999999999999";
+const MISSPELLED: &str = "|\n|-2 0|+2 0\n|-2 0\n0\n|-2 0\n1 0\n|-2 0\n\n|-2 0\r\n|-2  0\n| -2 0\n|\
+    -2 0 \n|-2\t0\n|-2 00\n|02 0\n|-0 0\n|- 2 0\n|--2 0\n|-2 d 0\n|1,2 0\n|1 0 2 0\n|c\n-2 0\n|\
+    0\n-2 0\n|3 0|3 x|3 02 1111111111111111111 0\n|999999999999999999";
 
 /// Tries these texts, and each proper prefix of a cube's text.
 #[test]

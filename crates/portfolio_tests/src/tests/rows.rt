@@ -24,10 +24,10 @@ static ROWS: [(&[&str], &[Said]); 3] = [
     ),
 ];
 
-/// This test would fail if every run reported that memory ran out, or that a ring failed at a
-/// stream's end.
+/// This test would fail if every run reported that memory ran out, that a thread couldn't be
+/// started, or that a ring failed at a stream's end.
 #[test]
-fn always_a_fault(rt: HostRuntime) -> Result<(), Fail> {
+fn always_want_of_memory(rt: HostRuntime) -> Result<(), Fail> {
     for mode in BOTH {
         for &(streams, said) in &ROWS {
             let readers = readers_of(rt.alloc(), streams, 5)?;

@@ -264,9 +264,10 @@ static COUNTS: [usize; 6] = [0, 1, 2, 65_535, 65_536, 65_537];
 /// The most bytes that a read gives.
 static MOST_A_READ: [usize; 4] = [1, 2, 65_535, 65_536];
 
-/// Streams of these lengths, with an end or a failed read after the last byte.
+/// Streams of these lengths, with an end or a failed read after the last byte. This test would fail
+/// if every ring failed at a stream's end.
 #[test]
-fn streams_come_through(rt: HostRuntime) -> Result<(), Fail> {
+fn always_a_ring_fault(rt: HostRuntime) -> Result<(), Fail> {
     for count in &COUNTS {
         for most in &MOST_A_READ {
             comes_through(&rt, rt.alloc(), STANDARD, *count, *most)?;

@@ -1,0 +1,6 @@
+pub mod ModelText
+pub mod Reading
+pub mod Answers
+pub mod FaultSources
+pub mod Laws
+pub mod internal

@@ -1,0 +1,438 @@
+"""Leaves out, one by one, each line of lrup-solve's front that is marked as trusted.
+
+A hostile program gets a wrong answer from each front that lacks such a line, but none from the
+whole front. Nightly rows leave out each statement without a marked line, and try all those
+programs: there is no wrong answer."""
+import contextlib
+import functools
+import os
+import re
+import resource
+import shlex
+import shutil
+import signal
+import subprocess
+import time
+from pathlib import Path
+from typing import Any, Callable, Dict, Iterator, List, Sequence, Tuple
+
+import pytest
+
+from harness import (BUILDS, FLAGS, MODEL, PROGRAM, ROOT, Row, alone, compiled, is_newer,
+                     parametrized, run, want, written)
+from hostile import SATISFIABLE, is_model, program
+from hostile_programs import COMMON
+from solving import FRONTS_FLAGS, LRUP_SOLVE, Answer, in_place_of_lrupd, with_model
+
+FOLDER = ROOT / "tools" / "lrup-solve"
+MARK = re.compile(r"// trusted \(([^)]*)\)")
+LINES = (FOLDER / "front.c").read_text().splitlines(keepends=True)
+# The words of each mark, by the number of its line, counting from 0.
+MARKS = {number: found[1] for number, line in enumerate(LINES) for found in MARK.finditer(line)}
+COMPILES = [*FRONTS_FLAGS, "-w", f"-I{FOLDER}", *shlex.split(FLAGS)]
+UNSATISFIABLE, UNDER = "s UNSATISFIABLE", "s UNSATISFIABLE UNDER ASSUMPTIONS"
+FOUND = "s SATISFIABLE"
+# While the front is stopped, lrupd ends, and a line is added after lrupd's last one.
+FORGES = """os.kill(int(front), signal.SIGSTOP)
+{end}
+time.sleep(0.3)
+forge({line!r})
+os.kill(int(front), signal.SIGCONT)
+hears('lrupd')"""
+Attack = Callable[[Path, Path], bool]
+
+
+def answer_of(front: Path, work: Path, body: str, words: Sequence[object] = (),
+              text: str = SATISFIABLE, lrupd: object = PROGRAM, **how: Any) -> Answer:
+    word = "-" if "given" in how else written(text, work)
+    return Answer(run([front, "--lrupd", lrupd, "--engines", program(body, work), "--time", "10",
+                       *words, word],
+                      limit=60, **how))
+
+
+def says(line: str, *how: Any, **more: Any) -> Attack:
+    """The front prints this line for a satisfiable formula."""
+    return lambda front, work: line in answer_of(front, work, *how, **more).out.splitlines()
+
+
+def accepts(body: str, text: str = SATISFIABLE) -> Attack:
+    """The front accepts a model that doesn't satisfy the formula, or prints none, or not to its
+    end."""
+    def attack(front: Path, work: Path) -> bool:
+        answer = answer_of(front, work, body, text=text)
+        is_whole = answer.values[-1:] == [0] and is_model(answer, work / "formula.cnf")
+        return (FOUND in answer.answers or answer.status == 10) and not is_whole
+    return attack
+
+
+def gives(signs: str, text: str = SATISFIABLE) -> Attack:
+    return accepts(f"model({signs!r})\ntime.sleep(0.5)", text)
+
+
+def meanwhile(signs: str, body: str) -> Attack:
+    """The front accepts a wrong model since something happens when lrup-model has checked it, and
+    the front doesn't know that yet."""
+    return lambda front, work: accepts(STOPS.format(signs=signs, body=body))(
+        with_model(f'sleep 0.5\nexec {MODEL} "$@"', front, work), work)
+
+
+def assumes(body: str, literals: str) -> Callable[[Path, Path], Answer]:
+    return lambda front, work: answer_of(front, work, body,
+                                         ["--assume", written(literals, work, "cube")])
+
+
+def breaks(literals: str) -> Attack:
+    """The front accepts the model 1 2 -3, which contradicts these assumptions."""
+    return lambda front, work: assumes("model('++-')\ntime.sleep(0.5)",
+                                       literals)(front, work).status == 10
+
+
+def killed_by_its_status(front: Path, work: Path) -> bool:
+    """SIGFPE has the number of the status for a proof under assumptions."""
+    body = ("os.mkfifo(folder + '/round-1.stream-1')\ncheck()\n"
+            "open(folder + '/round-1.stream-1', 'w')\n"
+            + "pid = int(open(f'/proc/{front}/task/{front}/children').read().split()[-1])\n"
+            + FORGES.format(end="os.kill(pid, signal.SIGFPE)", line=UNDER))
+    return assumes(body, "2 0\n")(front, work).answers == [UNDER]
+
+
+def planted(work: Path, *names: str) -> Path:
+    """The user's current folder, with hostile programs in it."""
+    folder = work / "here"
+    folder.mkdir()
+    in_place_of_lrupd("echo s UNSATISFIABLE", folder)
+    for name in names:
+        program("stream(1, '')\ncheck()\nhears('lrupd')", folder).rename(folder / name)
+    return folder
+
+
+def in_the_current_folder(front: Path, work: Path) -> bool:
+    """The running program was removed, so its path is unknown."""
+    folder, formula, copy = (planted(work, "lrup-engines"), written(SATISFIABLE, work),
+                             Path(shutil.copy(front, work / "removed")))
+    with open(copy) as file:
+        copy.unlink()
+        done = run([f"/proc/self/fd/{file.fileno()}", formula], cwd=folder,
+                   pass_fds=[file.fileno()])
+    return UNSATISFIABLE in done.out.splitlines()
+
+
+def looked_up(words: Sequence[str], path: str) -> Attack:
+    def attack(front: Path, work: Path) -> bool:
+        folder, formula = planted(work, "engines"), written(SATISFIABLE, work)
+        shutil.copy(MODEL, front.parent)
+        done = run([front, "--engines", folder / "engines", *words, formula], cwd=folder,
+                   env={**os.environ, "PATH": path})
+        return UNSATISFIABLE in done.out.splitlines()
+    return attack
+
+
+def prints(front: Path, work: Path) -> bool:
+    engines = in_place_of_lrupd("echo s UNSATISFIABLE", work)
+    return UNSATISFIABLE in run([front, "--lrupd", PROGRAM, "--engines", engines,
+                                 written(SATISFIABLE, work)]).out.splitlines()
+
+
+def as_expected(front: Path, work: Path) -> bool:
+    """No answer is printed, but the status says that the expected one was."""
+    return answer_of(front, work, "", ["--expect", "unsat"]).status == 0
+
+
+def unproved(front: Path, work: Path) -> bool:
+    """As lrup-check: nothing is proved, but the status says so."""
+    return run([front, "--check", "--lrupd", PROGRAM, "--engines", program("", work),
+                written(SATISFIABLE, work), os.devnull], limit=60).status == 0
+
+
+def unread(front: Path, work: Path) -> bool:
+    """The same, where a front that doesn't read its words finds lrupd and a hostile program in its
+    own folder, and the formula on standard input."""
+    program("", front.parent).rename(front.with_name("lrup-engines"))
+    front.with_name("lrupd").symlink_to(PROGRAM)
+    return run([front, "--expect", "unsat"], SATISFIABLE, limit=60).status == 0
+
+
+def helped(front: Path, work: Path) -> bool:
+    return run([front, "--expect", "unsat", "--help"]).status == 0
+
+
+def half_unpacked(front: Path, work: Path) -> bool:
+    """The program that unpacks the formula fails after it has written another one."""
+    gzip = program("", work).rename(written("", work / "unpacks", "gzip"))
+    gzip.write_text("#!/bin/sh\nprintf 'p cnf 1 2\\n1 0\\n-1 0\\n'\nexit 1\n")
+    body = "stream(1, '3 0 1 2 0\\n')\ncheck()\nhears('lrupd')"
+    done = run([front, "--lrupd", PROGRAM, "--engines", program(body, work), "--time", "10",
+                written(SATISFIABLE, work, "formula.cnf.gz")], limit=60,
+               env={**os.environ, "PATH": f"{gzip.parent}:{os.environ['PATH']}"})
+    return UNSATISFIABLE in done.out.splitlines()
+
+
+def cut(front: Path, work: Path) -> bool:
+    """The disk is full after the first words of the answer, which are another answer."""
+    out = work / "out"
+    with open(out, "w") as file:
+        done = answer_of(front, work, CUTS, ["--assume", written("-2 0\n", work, "cube")],
+                         stdout=file)
+    return done.status == 20 and out.read_text() == UNSATISFIABLE
+
+
+ENDS = ("os.mkfifo(folder + '/round-1.stream-1')\ncheck()\n"
+        "feeding = open(folder + '/round-1.stream-1', 'w')\n")
+CHANGES = """os.pwrite(os.open(formula, os.O_RDWR), b"p cnf 1 2\\n1 0\\n-1 0\\n", 0)
+os.truncate(formula, 19)
+stream(1, "3 0 1 2 0\\n")
+check()
+hears("lrupd")"""
+CUTS = f"""stream(1, '5 2 0 1 2 0\\n')
+check()
+hears('lrupd')
+import resource
+resource.prlimit(int(front), resource.RLIMIT_FSIZE, 2 * ({len(UNSATISFIABLE)},))"""
+STOPS = COMMON.replace("{", "{{").replace("}", "}}") + """model({signs!r})
+survives()
+os.kill(int(front), signal.SIGSTOP)
+while ' Z ' not in open(f'/proc/{{pid}}/stat').read(): time.sleep(0.01)
+{body}
+os.kill(int(front), signal.SIGCONT)"""
+FORGED = ENDS + FORGES.format(end="feeding.close()", line=UNSATISFIABLE)
+# Others write to the model before it is sealed: the same one, and a line that lrup-model skips.
+ADDS = """overwrites(in_memory('model')[0], b'v 1 2 -3 0\\ns UNSATISFIABLE\\n')
+model('++-')
+time.sleep(0.5)"""
+# The attacks, by the words of the marks.
+ATTACKS: Dict[str, Attack] = {
+    "current folder": in_the_current_folder, "PATH": looked_up([], f".::{os.environ['PATH']}"),
+    "output": prints,
+    "copy": says(UNSATISFIABLE, CHANGES, given=SATISFIABLE), "unpacked": half_unpacked,
+    "assume": breaks("2 3 0\n"), "seal": meanwhile(
+        "++-", "tries(overwrites, in_memory('model')[0], b'v -1 -2 -3 0\\n')"),
+    "lines": says(UNSATISFIABLE, COMMON + ADDS),
+    "values": gives("++-"),
+    "formula": says(UNSATISFIABLE, "stream(1, 'p cnf 1 2\\n1 0\\n-1 0\\n')\n"
+                                   "stream(2, '3 0 1 2 0\\n')\ncheck('2 10 10 0')\nhears('lrupd')"),
+    "one line": says(UNSATISFIABLE, "say('c x\\ns UNSATISFIABLE')"), "expected": as_expected,
+    "unproved": unproved, "answer": as_expected, "options": unread, "words": unread, "help": helped,
+    "end": cut, "signal": killed_by_its_status, "status": says(UNSATISFIABLE, FORGED),
+    "exit": says(UNSATISFIABLE, FORGED),
+    "last line": lambda front, work: UNSATISFIABLE in answer_of(
+        front, work, "stream(1, '')\ncheck()\nhears('lrupd')",
+        lrupd=in_place_of_lrupd("echo another program", work)).answers,
+}
+# Attacks that no single line keeps off.
+OTHER_ATTACKS: Dict[str, Attack] = {
+    "a name": looked_up(["--lrupd", "lrupd"], "/usr/bin"),
+    "a verdict in place of a comment": says(UNSATISFIABLE, "say('s UNSATISFIABLE')"),
+    "no model": gives(""), "no variable is true": gives("---"), "one clause isn't": gives("+--"),
+    "too many variables": gives("++-+"),
+    "a clause on two lines": gives("++", "p cnf 2 2\n1 2 0\n-1 0\n"),
+    "a formula that is refused": gives("+", "p cnf 1 1\n1 -2 0\n"),
+    "against an assumption": breaks("-2 0\n"), "assumptions that are refused": breaks("c 3 0\n"),
+    "a forged line of lrup-model": meanwhile("---", f"forge({FOUND!r})"),
+}
+
+
+@functools.lru_cache(maxsize=None)
+def unchanged() -> Tuple[Path, Path]:
+    """The whole front, and the supervisor's object. One worker builds both."""
+    place = BUILDS / "unchanged"
+    front, supervisor = place / "lrup-solve", place / "supervisor.o"
+    with alone(place / "lock"):
+        if not is_newer(front, FOLDER.glob("*.[chd]*")):
+            compiled(supervisor, [FOLDER / "supervisor.c"], "-c", *COMPILES)
+            compiled(front, [FOLDER / "front.c", supervisor], *COMPILES)
+    return front, supervisor
+
+
+def whole_front(work: Path) -> Path:
+    """A copy of the whole front, alone in its folder: some attacks put other programs beside it."""
+    (work / "bin").mkdir()
+    return Path(shutil.copy(unchanged()[0], work / "bin"))
+
+
+def front_without(number: int, work: Path) -> Path:
+    """The front without this line, alone in its folder."""
+    return front_of("".join(line for at, line in enumerate(LINES) if at != number), work)
+
+
+def front_of(source: str, work: Path) -> Path:
+    folder = work / "front"
+    folder.mkdir()
+    (folder / "front.c").write_text(source)
+    (folder / "bin").mkdir()
+    return compiled(folder / "bin" / "lrup-solve", [folder / "front.c", unchanged()[1]], *COMPILES)
+
+
+def left_out(number: int, name: str, work: Path) -> None:
+    for whole in (False, True):
+        here = work / ("whole" if whole else "without")
+        here.mkdir()
+        found = ATTACKS[name](whole_front(here) if whole else front_without(number, here), here)
+        want(found, not whole, "a wrong answer of the whole front" if whole
+                               else f"a wrong answer without\n{LINES[number]}")
+
+
+def other(name: str, work: Path) -> None:
+    want(OTHER_ATTACKS[name](whole_front(work), work), False, "a wrong answer")
+
+
+def named(work: Path) -> None:
+    """Each mark has an attack, and each attack has a marked line."""
+    want(sorted(MARKS.values()), sorted(ATTACKS), "the words of the marks")
+
+
+# Statements without a mark.
+
+PROCESSES, MEMORY = 300, 8 << 30      # limits of a row; without some line a front may fork forever
+GROUPS = [Path("/sys/fs/cgroup"), Path("/sys/fs/cgroup/pids")]      # of version 2, and 1
+
+
+def code_of(line: str) -> str:
+    """The line without strings, characters and comments."""
+    return re.sub(r'"(\\.|[^"\\])*"|\'(\\.|[^\'\\])*\'|//.*', "", line).strip()
+
+
+def end_of(first: int) -> int:
+    """The last line of the statement that begins in this line; an `else` belongs to its `if`."""
+    number, depth = first, 0
+    while True:
+        code = code_of(LINES[number])
+        depth += code.count("{") + code.count("(") - code.count("}") - code.count(")")
+        is_end = depth == 0 and code.endswith((";", "}"))
+        if is_end and not code_of(LINES[number + 1]).startswith("else"):
+            return number
+        number += 1
+
+
+def statements() -> List[range]:
+    """The lines of each statement without a marked line, simple or not, in the front's functions.
+    Labels aren't statements."""
+    found, before = [], ""
+    for number, line in enumerate(LINES):
+        code = code_of(line)
+        if not code or line.startswith("#"):
+            continue
+        follows = before.endswith((";", "{", "}", ":")) and not before.endswith("= {")
+        is_inner = re.match(r"(if|for|while|else)\b.*\)$", before) is not None
+        is_label = code.endswith(":") or code.startswith("}")
+        if line.startswith("    ") and (follows or is_inner) and not is_label:
+            lines = range(number, end_of(number) + 1)
+            if not any(k in MARKS for k in lines):
+                found.append(lines)
+        before = code
+    return found
+
+
+@contextlib.contextmanager
+def few_processes(work: Path) -> Iterator[Callable[[], None]]:
+    """Gives a function that limits how many processes its caller and their children can have: they
+    are in a control group or, if there is none, belong to a user of their own."""
+    for place in GROUPS:
+        group = place / f"lrup-{os.getpid()}"
+        try:
+            group.mkdir()
+            with open(group / "pids.max", "r+") as most:
+                most.write(str(PROCESSES))
+        except OSError:
+            with contextlib.suppress(OSError):
+                group.rmdir()
+            continue
+
+        def join() -> None:
+            (group / "cgroup.procs").write_text(str(os.getpid()))
+
+        try:
+            yield join
+        finally:
+            end_group(group)
+        return
+    if os.getuid() != 0:
+        pytest.skip("no control group, and no user of its own, limits processes")
+    user = 100000 + os.getpid()
+    os.chown(work, user, user)
+
+    def become() -> None:
+        resource.setrlimit(resource.RLIMIT_NPROC, (PROCESSES, PROCESSES))
+        os.setgid(user)
+        os.setuid(user)
+
+    try:
+        yield become
+    finally:
+        if os.fork() == 0:
+            os.setuid(user)
+            os.kill(-1, signal.SIGKILL)
+            os._exit(0)
+        os.wait()
+
+
+def end_group(group: Path) -> None:
+    end = time.monotonic() + 20
+    while True:
+        left = (group / "cgroup.procs").read_text().split()
+        for pid in left:
+            with contextlib.suppress(ProcessLookupError):
+                os.kill(int(pid), signal.SIGKILL)
+        with contextlib.suppress(OSError):
+            return group.rmdir()
+        assert time.monotonic() < end, f"processes are left: {left}"
+        time.sleep(0.05)
+
+
+def attacked(front: Path, work: Path) -> None:
+    """Writes the names of the attacks that get a wrong answer. If the front can't run, or doesn't
+    end, an attack has none. Each attack has a folder and a session of its own, since a front may
+    kill its whole process group."""
+    for name, attack in {**ATTACKS, **OTHER_ATTACKS}.items():
+        here, said = work / re.sub(r"\W", "-", name), ""
+        (here / "bin").mkdir(parents=True)
+        if os.fork() == 0:
+            os.setsid()
+            try:
+                said = name * attack(Path(shutil.copy(front, here / "bin")), here)
+            except (subprocess.TimeoutExpired, OSError):
+                pass
+            except Exception as found:
+                said = f"{name}: {found!r}"
+            with open(work / "names", "a") as names:
+                names.write(f"{said}\n" * bool(said))
+            os._exit(0)
+        os.wait()
+
+
+def unmarked(lines: Sequence[int], work: Path) -> None:
+    """Without these lines the front isn't compiled, or gives no wrong answer."""
+    text = "".join(LINES[:lines[0]] + [";\n"] + LINES[lines[-1] + 1:])
+    try:
+        front = front_of(text, work)
+    except subprocess.CalledProcessError:
+        return
+    with few_processes(work) as limit:
+        child = os.fork()
+        if child == 0:
+            try:
+                limit()
+                (work / "names").touch()
+                resource.setrlimit(resource.RLIMIT_AS, (MEMORY, MEMORY))
+                attacked(front, work)
+            finally:
+                os._exit(0)
+        os.waitpid(child, 0)
+    left_out_lines = "".join(LINES[k] for k in lines)
+    want((work / "names").read_text(), "", f"attacks with a wrong answer without\n{left_out_lines}")
+
+
+def rows() -> List[Row]:
+    return [("marks", named),
+            *((f"without: {name}", left_out, number, name)
+              for number, name in MARKS.items() if name in ATTACKS),
+            *((f"whole: {name}", other, name) for name in OTHER_ATTACKS)]
+
+
+def nightly_rows() -> List[Row]:
+    return [(f"unmarked, line {lines[0] + 1}: {LINES[lines[0]].strip()[:50]}", unmarked, lines)
+            for lines in statements()]
+
+
+pytestmark = LRUP_SOLVE
+test_row = parametrized(rows())
+test_unmarked = pytest.mark.nightly(parametrized(nightly_rows()))

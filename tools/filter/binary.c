@@ -1,0 +1,136 @@
+// Unverified, like the whole filter. Reads binary DRAT and LRAT. A byte has seven bits of a number,
+// the lowest first; its eighth bit says whether more follow. A literal is twice its variable, plus
+// one if negative. Lists end with 0.
+//
+//     a literals                 an addition of DRAT          a id literals hints     of LRAT
+//     d literals                 a deletion of DRAT           d ids                   of LRAT
+//
+// An engine that shares clauses writes DRAT with three more kinds of steps:
+//
+//     i engine position literals     it took over the clause that ENGINE gave away at POSITION
+//     r engine position              it won't take over what ENGINE gave away before POSITION
+//     x                              the next addition may be given away; twice: it refutes a cube
+#include "errors.h"
+#include "readers.h"
+#include "line_limits.h"
+
+enum { MOST_SHIFT = 56, MOST_NUMBERS = 1 << 25 };  // of a step; a longer one is refused
+
+// Some solvers write an identity of LRAT as a literal, others as a plain number.
+typedef enum { UNDECIDED, PLAIN, DOUBLED } Coding;
+
+static uint64_t number(Input *input) {
+    uint64_t value = 0;
+    for (unsigned shift = 0; shift <= MOST_SHIFT; shift += 7) {
+        int byte = input_byte(input);
+        if (byte < 0) stop("the proof ends within a step");
+        value |= (uint64_t)(byte & 127) << shift;
+        if (byte < 128) return value;
+    }
+    stop("number too large");
+}
+
+static int64_t as_literal(uint64_t number) {
+    if (number >> 1 == 0 || number >> 1 > LAST_IDENTITY) stop("neither a literal nor an identity");
+    return number & 1 ? -(int64_t)(number >> 1) : (int64_t)(number >> 1);
+}
+
+// Reads numbers up to the next 0.
+static void numbers(Input *input, Numbers *list) {
+    for (uint64_t found; (found = number(input)) != 0;) {
+        if (list->length == MOST_NUMBERS) stop("a step of more than %d numbers", MOST_NUMBERS);
+        PUSH(list, (int64_t)found);
+    }
+}
+
+static void decode(Numbers *list, size_t start, size_t end, Coding coding) {
+    for (size_t k = start; k < end; k++) {
+        if (coding != PLAIN)
+            list->items[k] = as_literal((uint64_t)list->items[k]);
+        else if (list->items[k] > (int64_t)LAST_IDENTITY)
+            stop("number too large");
+    }
+}
+
+static void drat_step(Filter *filter, Input *input, int letter, Numbers *list) {
+    numbers(input, list);
+    decode(list, 0, list->length, DOUBLED);
+    if (letter == 'd')
+        filter_delete_literals(filter, list->items, list->length);
+    else
+        filter_add(filter, &(Addition){ .literals = list->items, .length = list->length });
+}
+
+static void sharing_step(Filter *filter, Input *input, int letter, Numbers *list) {
+    uint64_t engine = number(input), position = number(input);
+    if (letter == 'r') {
+        filter->hooks->passed(engine, position);
+        return;
+    }
+    numbers(input, list);
+    decode(list, 0, list->length, DOUBLED);
+    filter_take_over(filter, filter->hooks->gift(engine, position), list->items, list->length);
+}
+
+static bool has_odd(const Numbers *list, size_t start) {
+    for (size_t k = start; k < list->length; k++)
+        if (list->items[k] & 1) return true;
+    return false;
+}
+
+// Identities that are written as literals are even numbers, since RUP steps have no negative hints.
+// So an odd number shows that identities are plain. Otherwise the first addition decides: its
+// identity is above the formula's.
+static Coding coding_of(const Filter *filter, const Numbers *list, size_t hints, bool addition) {
+    int64_t first = addition ? list->items[0] : 0, formula = (int64_t)filter->originals;
+    if (first & 1 || has_odd(list, hints)) return PLAIN;
+    if (!addition) return UNDECIDED;
+    return first > formula && first / 2 <= formula ? PLAIN : DOUBLED;
+}
+
+static void lrat_step(Filter *filter, Input *input, int letter, Numbers *list, Coding *coding) {
+    bool addition = letter == 'a';
+    size_t hints = 0;
+    if (addition) {
+        PUSH(list, (int64_t)number(input));
+        numbers(input, list);
+        hints = list->length;
+    }
+    numbers(input, list);
+    if (*coding == UNDECIDED) *coding = coding_of(filter, list, hints, addition);
+    if (*coding == UNDECIDED) return;  // leaving out a deletion is never wrong
+    decode(list, 0, addition, *coding);
+    decode(list, addition, hints, DOUBLED);
+    decode(list, hints, list->length, *coding);
+    if (addition)
+        filter_add(filter, &(Addition){ .named = true,
+                                        .name = list->items[0],
+                                        .literals = list->items + 1,
+                                        .length = hints - 1,
+                                        .hints = list->items + hints,
+                                        .hinted = list->length - hints });
+    else
+        filter_delete(filter, list->items, list->length);
+}
+
+void binary_run(Filter *filter, Input *input, Form form) {
+    Numbers list = { 0 };
+    Coding coding = UNDECIDED;
+    for (uint64_t step = 1;; step++) {
+        position_set_step(step, input_position(input) + 1);
+        int letter = filter_ends(filter) ? -1 : input_byte(input);
+        if (letter < 0) break;
+        list.length = 0;
+        if (form == SHARING_DRAT && letter == 'x')
+            filter->marked++;
+        else if (form == SHARING_DRAT && (letter == 'i' || letter == 'r'))
+            sharing_step(filter, input, letter, &list);
+        else if (letter != 'a' && letter != 'd')
+            stop("not a step of a binary proof, which begins with a or d");
+        else if (form == BINARY_LRAT)
+            lrat_step(filter, input, letter, &list, &coding);
+        else
+            drat_step(filter, input, letter, &list);
+    }
+    grow(list.items, 0);
+}

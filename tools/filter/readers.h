@@ -1,0 +1,13 @@
+// Unverified: functions that read a proof to its end, or to the end of the stream.
+#ifndef READERS_H
+#define READERS_H
+
+#include "filter.h"
+#include "form.h"
+#include "input.h"
+
+void text_run(Filter *filter, Input *input, Form form);    // text.c: LRAT, DRUP and DRAT
+void frat_run(Filter *filter, Input *input);               // frat.c
+void binary_run(Filter *filter, Input *input, Form form);  // binary.c
+
+#endif

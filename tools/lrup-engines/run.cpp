@@ -1,0 +1,441 @@
+// Unverified, like the whole solver. The first process: handles the ends of the other processes,
+// and finds the answer.
+#include <algorithm>
+#include <cmath>
+#include <csignal>
+#include <cstdio>
+#include <cstring>
+
+#include <sys/wait.h>
+#include <unistd.h>
+
+#include "run.h"
+
+namespace {
+
+const double ENDING = 10;  // seconds that a filter has for its current line
+const double SAVING = 6;   // seconds to save the last round; the front waits a bit longer
+
+}  // namespace
+
+// Signals are handled here only once there is something to end.
+void Run::prepare() {
+    Options &options = inputs.options;
+    std::string program = absolute(front.lrupd);
+    Folder::make();
+    front.start_probe();
+    if (options.engines == 0 && options.solvers.empty()) options.engines = half_of_the_cores();
+    options.filters = filters_of(options);
+    options.engines += int(options.solvers.size()) * options.filters;
+    keeping.prepare(program);
+    checker.keeps_digests = options.record != nullptr;
+    inputs.find();
+    keeping.check_outputs(true);
+    display.begin();
+    inputs.read([this](int file) { await_formula(file); });
+    if (options.replace) await_acceptance();
+    inputs.keep();
+    teams.open(inputs.saved.count() + 1);
+    teams.open_models();
+    rounds.begin(program);
+    loop.begin();
+    while (reap(children())) {}  // the probe may have ended before
+    for (size_t k = 0; k < inputs.cubes.size(); k++) teams.dealer.queue.push_back(k);
+    if (others) others->begin();
+    teams.start(!others);
+    if (inputs.options.resumed) display.tell(rounds.beginning());
+    for (size_t k = 0; k < teams.size(); k++)
+        if (teams.is_solver(k) && k == teams.first_of(k))
+            display.tell_more(teams.title(k) + ": " + teams[k].command);
+}
+
+// Waits until the formula is read. A signal or the time limit ends the run.
+void Run::await_formula(int file) {
+    double limit = inputs.deadline();
+    std::string why;
+    for (bool is_read = false; !is_read && why.empty(); display.show_reading()) {
+        pollfd files[] = { front.says(), { file, POLLIN, 0 } };
+        poll(files, 2, milliseconds_to(std::min(limit, display.next_reading())));
+        is_read = files[1].revents != 0;
+        if (files[0].revents != 0) front.read_on(nullptr);
+        if (now() >= limit && !is_read) why = "time is up, but the formula hasn't been read yet";
+        if (!front.stopped.empty()) why = front.stopped;
+    }
+    display.end_reading();
+    if (!why.empty()) end_early(why);
+}
+
+// Waits until lrupd has read the formula, too, which it may refuse: what is replaced can't be had
+// back. Also refuses proofs and solvers that can't be used.
+void Run::await_acceptance() {
+    Child &probe = front.probe.child;
+    front.await_refusal(inputs.deadline());
+    look_at_reading();
+    if (!front.stopped.empty()) end_early(front.stopped);
+    if (probe.running) end_early("time is up, but lrupd hasn't read the formula yet");
+    if (!probe.ended_with(UNKNOWN_STATUS)) end_early("lrupd " + probe.end());
+    teams.check_solvers();
+}
+
+// Ends the run before anything is started.
+void Run::end_early(const std::string &why) {
+    display.tell(why);
+    display.report_end(line_of_answer());
+    Folder::remove();
+    _exit(0);
+}
+
+// Events.
+
+double Run::next_look() const {
+    if (phase == DONE) return inputs.deadline();
+    double time = std::min(
+        { display.next_show(), checker.next_look(), asked.empty() ? inputs.deadline() : saving });
+    if (others) time = std::min(time, others->next_look());
+    if (phase == SOLVING && rounds.state == Rounds::OPEN)
+        time = std::min({ time, teams.next_start(), rounds.next_saving() });
+    if (phase == ENDING_STREAMS) time = std::min(time, ending);
+    return time;
+}
+
+std::vector<Child *> Run::children() {
+    std::vector<Child *> list = teams.children();
+    list.insert(list.end(), { &front.probe.child, &rounds.saver.child });
+    for (Child *child : rounds.children()) list.push_back(child);
+    if (others) list.push_back(others->carrier);
+    return list;
+}
+
+// Also wakes up if the front says something, or a full pipe has room.
+void Run::wait() {
+    std::vector<pollfd> files = { front.says() };
+    for (const pollfd &file : checker.full_pipes()) files.push_back(file);
+    for (const pollfd &file : others ? others->files() : std::vector<pollfd>())
+        files.push_back(file);
+    loop.wait(teams.shared->events, files, next_look(), children());
+    if (files[0].revents != 0) front.read_on(&checker);
+    if (phase != DONE) checker.look();
+}
+
+std::string Run::why_it_ends() {
+    std::string why = others ? others->look() : "";
+    if (!why.empty()) return why;
+    if (loop.ended_by) return std::string("ended by a signal: ") + strsignal(loop.ended_by);
+    if (front.probe.child.ended() && WIFSIGNALED(front.probe.child.status))
+        return "lrupd " + front.probe.child.end();
+    if (asked.empty()) asked = why_it_is_asked();
+    return asked.empty() || saves_first() ? "" : asked;
+}
+
+std::string Run::why_it_is_asked() const {
+    if (!front.stopped.empty()) return front.stopped;
+    return now() >= inputs.deadline() ? "time is up" : "";
+}
+
+// Before it ends, a run spends at most a few seconds on saving what it has found since its last
+// round, or on the rest of its proof's check. Returns whether it is still doing so.
+bool Run::saves_first() {
+    if (saving == 0) {
+        saving = now() + SAVING;
+        rounds.save_last();
+    }
+    if (!inputs.options.may_be_resumed() || now() >= saving) return false;
+    return phase == SOLVING ? rounds.is_saving() : !rounds.is_behind();
+}
+
+void Run::look() {
+    Phase phase_before = phase;
+    Rounds::State state_before = rounds.state;
+    std::string why = why_it_ends();
+    if (!why.empty()) return finish(UNKNOWN_ANSWER, why);
+    look_at_reading();
+    if (phase == SOLVING) look_at_teams();
+    if (phase == SOLVING && rounds.state == Rounds::OPEN) look_at_solving();
+    if (phase == SOLVING) look_at_checker();
+    if (phase == ENDING_STREAMS) end_streams();
+    if (phase != DONE) why = rounds.feed(phase == CHECKING);
+    if (!why.empty()) finish(UNKNOWN_ANSWER, why);
+    if (phase == CHECKING && checker.child.ended()) verdict();
+    loop.looks_again = phase != DONE && (phase != phase_before || rounds.state != state_before);
+}
+
+void Run::look_at_reading() {
+    if (!front.has_refused()) return;
+    const Checker &probe = front.probe;
+    bool is_of_assumptions =
+        inputs.options.assume && probe.last_line().find("assumptions") != std::string::npos;
+    if (probe.last_line().empty())
+        inputs.refuse_formula("lrupd, which reads the formula, " + probe.child.end());
+    if (is_of_assumptions)
+        inputs.refuse_formula(title(inputs.options.assume) + inputs.fault_of_assumptions());
+    inputs.refuse_formula(title(inputs.options.formula));
+}
+
+void Run::look_at_solving() {
+    bool is_first = teams.dealer.dealt == 0;
+    teams.look();
+    if (is_first && teams.dealer.dealt > 0) display.tell_more("engines take cubes");
+}
+
+void Run::look_at_teams() {
+    bool any_left = false, any_has_begun = false;
+    teams.keep_last();
+    for (size_t k = 0; k < teams.size() && phase == SOLVING; k++) {
+        look_at_team(k);
+        any_left |= !teams.is_lost(k);
+        any_has_begun |= !teams[teams.first_of(k)].idle;
+    }
+    if (phase != SOLVING || any_left) return;
+    std::string contradicting = inputs.contradiction();
+    const char *none = inputs.options.check ? "no proof is left" : "no engine is left";
+    finish(UNKNOWN_ANSWER, contradicting.empty() ? none : contradicting);
+    if (!any_has_begun)
+        unstarted =
+            inputs.options.check ? teams.why_lost(0) : "nothing could run: " + teams[0].cause;
+}
+
+// The proof is complete once the filter has written its last line, whatever the engine says. If
+// filters share the proof, the one decides that stopped at its first step.
+void Run::look_at_team(size_t k) {
+    Team &team = teams[k];
+    if (LOAD(teams.engine_status(k).unwritten) && team.filter.ended())
+        refuse("cannot write " + teams.stream_path(k, rounds.number) + ": " +
+               teams.engine_status(k).cause);
+    if (k != teams.first_of(k)) return;
+    const size_t decider = teams.decider(k);
+    const Child &filter = teams[decider].filter;
+    EngineStatus &facts = teams.engine_status(decider);
+    if (LOAD(facts.refuted)) {
+        if (inputs.options.check && rounds.state == Rounds::OPEN && teams.is_any_at_work()) return;
+        if (teams.answered == 0) teams.answered = now();
+        look_at_ends();
+        ending = now() + ENDING;
+        phase = ENDING_STREAMS;
+        if (!inputs.options.check) display.tell_more(teams.title(k) + " has the proof");
+        return;
+    }
+    int said = LOAD(teams.engine_status(k).answer);
+    if (said == SATISFIABLE && !team.wrong) look_at_model(k);
+    if (filter.ended()) STORE(facts.gone, 1);
+    if (phase != SOLVING || team.told || said == SATISFIABLE) return;
+    bool both_ended = team.engine.ended() && filter.ended_with(0);
+    if (look_at_end(k) || !filter.ended() || !(both_ended || !filter.ended_with(0))) return;
+    if (facts.needs_one && teams.can_restart(k)) {
+        display.tell_more(team.command + ": one filter checks it, from its beginning");
+        return teams.start_alone(k, rounds.number);
+    }
+    if (facts.proof_ended && team.engine.running) return;  // the engine ends soon, too
+    std::string end = facts.cause[0] ? std::string("stopped: ") + facts.cause : filter.end();
+    team.idle = inputs.options.check && facts.cause[0] && !facts.has_steps;  // it isn't a proof
+    tell_lost(k, inputs.options.check && facts.cause[0] ? facts.cause
+                                                        : end_before(k) + "its filter " + end);
+    team.engine.signal(SIGKILL);
+    teams.end_filters(k);
+}
+
+// How an engine has ended, with the last line of a solver's standard error.
+std::string Run::end_of(size_t k) const {
+    const Team &team = teams[k];
+    const char *words = teams.engine_status(k).last_words;
+    if (!teams.is_solver(k)) return "the engine " + team.engine.end();
+    if (!words[0] && team.engine.ended_with(127)) words = "command not found";
+    return "the solver " + team.engine.end() + (words[0] ? ": " : "") + words;
+}
+
+static bool is_usual(const Child &engine) {
+    bool has_answered = engine.ended_with(SATISFIABLE) || engine.ended_with(UNSATISFIABLE);
+    return has_answered || engine.ended_with(0);
+}
+
+// How the engine ended, if that explains what its filter found.
+std::string Run::end_before(size_t k) const {
+    bool proof_ended = teams.engine_status(teams.decider(k)).proof_ended;
+    return proof_ended && !is_usual(teams[k].engine) ? end_of(k) + "; " : "";
+}
+
+// Whether an engine has ended without an answer, and not because of its filter.
+bool Run::look_at_end(size_t k) {
+    Team &team = teams[k];
+    const EngineStatus &facts = teams.engine_status(k);
+    const size_t decider = teams.decider(k);
+    bool has_cause = teams.engine_status(decider).cause[0];
+    bool has_ended =
+        team.engine.ended() && (teams[decider].filter.ended_with(0) || !team.engine.ended_with(0));
+    bool is_unread = inputs.options.check && has_ended && facts.last_words[0];
+    if (LOAD(facts.answer) != 0 || (has_cause && !is_unread) || !has_ended) return false;
+    bool unfounded = LOAD(facts.unfounded);
+    team.idle = !unfounded && LOAD(facts.lines) == 0 && !is_usual(team.engine);
+    static const char no_values[] = "it says 'satisfiable', but gives no assignment in lines v";
+    std::string end = inputs.options.check ? "it can't be read" : end_of(k);
+    if (is_unread) end += std::string(": ") + facts.last_words;
+    tell_lost(k, unfounded ? no_values : end);
+    // The engine's process, which was killed, hasn't ended what the solver started.
+    if (LOAD(facts.group)) kill(-LOAD(facts.group), SIGKILL);
+    return true;
+}
+
+// Looks at all engines once one has the answer, before they are killed. A filter that has the proof
+// ends before its engine.
+void Run::look_at_ends() {
+    for (size_t k = 0; k < teams.size(); k++)
+        if (k == teams.first_of(k) && !teams[k].told &&
+            !LOAD(teams.engine_status(teams.decider(k)).refuted))
+            look_at_end(k);
+}
+
+void Run::tell_lost(size_t k, const std::string &why) {
+    teams[k].told = true;
+    teams[k].cause = why;
+    display.tell_more(teams.why_lost(k));
+}
+
+// The answer has to wait until lrupd has read the formula, which it may refuse.
+void Run::look_at_model(size_t k) {
+    if (!front.probe.child.ended()) return;
+    const signed char *values = teams[k].model;
+    if (inputs.is_model(values)) {
+        model.assign(values, values + inputs.formula.variables);
+        display.tell_more(teams.title(k) + " has an assignment");
+        look_at_ends();
+        return finish(SATISFIABLE, "");
+    }
+    teams[k].wrong = true;
+    tell_lost(k, "its assignment doesn't satisfy the formula");
+}
+
+void Run::look_at_checker() {
+    bool is_proved = checker.child.ended_with(0) || checker.child.ended_with(8);
+    if (is_proved || (checker.child.ended() && rounds.state == Rounds::SAVING)) return verdict();
+    if (checker.child.ended()) return finish(UNKNOWN_ANSWER, end_of_checker());
+    std::string why = rounds.look();
+    if (!why.empty()) finish(UNKNOWN_ANSWER, why);
+}
+
+void Run::end_streams() {
+    bool is_late = now() >= ending;
+    if (is_late) ending = INFINITY;
+    if (!teams.end_streams(is_late)) return;
+    rounds.end_streams();
+    phase = CHECKING;
+}
+
+// The verdict depends only on lrupd's status. The answer is printed even if the report can't be
+// kept.
+void Run::verdict() {
+    display.show_lines();
+    bool is_proved = checker.child.ended_with(0) || checker.child.ended_with(8);
+    bool is_unknown = checker.child.ended_with(UNKNOWN_STATUS) && !rounds.is_behind();
+    if (is_proved || is_unknown) unkept = rounds.keep_report();
+    has_report = (is_proved || is_unknown) && unkept.empty();
+    if (is_proved) return finish(UNSATISFIABLE, "");
+    finish(UNKNOWN_ANSWER, is_unknown ? "lrupd hasn't accepted the proof" : end_of_checker());
+}
+
+std::string Run::end_of_checker() const {
+    bool is_unsaved = checker.child.ended_with(UNSAVED_STATUS);
+    bool is_of_record = rounds.is_behind() && rounds.checked > 0;
+    std::string where = is_of_record ? ", in round " + std::to_string(rounds.checked) + " of " +
+                                           inputs.options.record
+                                     : "";
+    return "lrupd " + checker.child.end() + where + (is_unsaved ? ": " + Folder::room() : "");
+}
+
+// The end.
+
+void Run::finish(Answer found, const std::string &why) {
+    if (phase == DONE) return;
+    answer = found;
+    cause = why;
+    phase = DONE;
+}
+
+// If lrupd refuses the formula, the run says so, no matter how early solving ended. A signal or the
+// time limit ends the wait.
+void Run::await_reading() {
+    for (Child *child : children())
+        if (child != &front.probe.child) child->signal(SIGKILL);
+    while (answer == UNKNOWN_ANSWER && front.probe.child.running && !is_ended() &&
+           now() < inputs.deadline())
+        wait();
+    if (answer == UNKNOWN_ANSWER && !is_ended()) look_at_reading();
+}
+
+// Waits for a tool that is called at the end. False if the run has to end first.
+bool Run::await_end(Child &child) {
+    double time = inputs.deadline();
+    bool goes_on = true;
+    while (child.running) {
+        front.say("busy");  // so the front waits some seconds more
+        std::vector<pollfd> files = { front.says() };
+        loop.wait(teams.shared->events, files, std::min(time, now() + 1), { &child });
+        if (files[0].revents != 0) front.read_on(&checker);
+        goes_on &= !is_ended() && now() < time;
+        if (!goes_on) child.signal(SIGTERM);
+    }
+    return goes_on;
+}
+
+void Run::explain_proof(size_t k, const Keeping::Wait &wait_for_end) {
+    std::string more =
+        teams[k].told ? keeping.explain_proof(teams[k].cause, teams.proof_of(k), wait_for_end) : "";
+    teams[k].cause += more;
+    if (!more.empty()) display.tell_more(teams[k].command + ":" + more.substr(1));
+}
+
+void Run::end_all() {
+    for (Child *child : children()) child->signal(SIGKILL);
+    for (Child *child : children()) wait_for(*child);
+    rounds.packer.end();
+    Keeping::Wait wait_for_end = [this](Child &child) { return await_end(child); };
+    if (has_report && answer == UNSATISFIABLE && inputs.options.record)
+        remove_checkpoints(inputs.options.record);
+    if (has_report) unkept = keeping.describe(checker, rounds.number, wait_for_end);
+    std::string why = keeping.keep(answer == UNSATISFIABLE, teams.lost, wait_for_end);
+    if (unkept.empty()) unkept = why;
+    if (checker.child.ended()) keeping.explain(checker.report, wait_for_end);
+    for (size_t k = 0; inputs.options.check && k < teams.size() && answer == UNKNOWN_ANSWER; k++)
+        explain_proof(k, wait_for_end);
+    end_children();
+}
+
+// What the front is expected to print.
+std::string Run::line_of_answer() const {
+    if (answer == UNKNOWN_ANSWER) return "s UNKNOWN";
+    if (answer == SATISFIABLE) return "s SATISFIABLE";
+    return checker.child.ended_with(8) ? "s UNSATISFIABLE UNDER ASSUMPTIONS" : "s UNSATISFIABLE";
+}
+
+// The front prints the answer itself, if this process doesn't refuse to give one.
+void Run::send_answer() {
+    display.hide();
+    if (inputs.options.verbose) display.details();
+    if (inputs.options.verbose && others) others->details();
+    display.lost();
+    display.hints();
+    if (answer == UNKNOWN_ANSWER) display.causes(cause);
+    std::string next = rounds.how_to_go_on();
+    if (answer == UNKNOWN_ANSWER && !next.empty()) display.tell(next);
+    display.record();
+    display.summary();
+    bool is_refused = answer == UNKNOWN_ANSWER && (!unkept.empty() || !unstarted.empty());
+    if (!is_refused) display.report_end(line_of_answer());
+    if (answer == SATISFIABLE) tell_model(model);
+    if (!unkept.empty()) refuse(unkept);
+    if (answer == UNKNOWN_ANSWER && !unstarted.empty()) refuse(unstarted);
+}
+
+int Run::solve(const Elsewhere *elsewhere) {
+    others = elsewhere;
+    prepare();
+    while (phase != DONE) {
+        wait();
+        look();
+        if (phase != DONE) display.show();
+    }
+    if (others) others->end(is_ended());
+    await_reading();
+    end_all();
+    send_answer();
+    Folder::remove();
+    return 0;
+}

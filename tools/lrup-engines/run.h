@@ -1,0 +1,91 @@
+// Unverified, like the whole solver. A run: the process that feeds lrupd.
+#ifndef RUN_H
+#define RUN_H
+
+#include <functional>
+
+#include "keeping.h"
+#include "loop.h"
+#include "rounds.h"
+
+// Engines on other hosts, and what this process does for them (mpi_leader.cpp).
+struct Elsewhere {
+    std::function<void()> begin;        // before engines start here
+    std::function<std::string()> look;  // in each turn; returns why the run can't continue, or ""
+    std::function<double()> next_look;  // when `look` is due at the latest
+    std::function<std::vector<pollfd>()> files;  // to wait for
+    std::function<void()> details;               // with -v
+    std::function<void(bool at_once)> end;
+    Child *carrier = nullptr;
+};
+
+class Run {
+  public:
+    Inputs inputs;
+    Teams teams;
+    Checker checker;
+    Display display;
+    Rounds rounds;
+
+    explicit Run(const Options &given)
+        : inputs(given), teams(inputs), display(inputs, teams, rounds, checker),
+          rounds(inputs, teams, checker, display) {}
+    int solve(const Elsewhere *elsewhere);  // NULL: all engines are here; returns the status
+
+  private:
+    enum Phase { SOLVING, ENDING_STREAMS, CHECKING, DONE };
+
+    Phase phase = SOLVING;
+    Answer answer = UNKNOWN_ANSWER;
+    // why there is no answer; why there is no record; why nothing was done
+    std::string cause, unkept, unstarted;
+    bool has_report = false;  // in the record
+    std::vector<signed char> model;
+    Loop loop;
+    Keeping keeping{ inputs, display };
+    const Elsewhere *others = nullptr;
+    double ending = 0;
+    std::string asked;  // why the run has to end once its record is saved
+    double saving = 0;  // when it then ends at the latest
+
+    void prepare();
+    void await_formula(int file);
+    void await_acceptance();
+    [[noreturn]] void end_early(const std::string &why);
+    void wait();
+    double next_look() const;
+    std::vector<Child *> children();
+    bool is_ended() const { return loop.ended_by || !front.stopped.empty(); }
+    std::string why_it_ends();
+    std::string why_it_is_asked() const;
+    bool saves_first();
+    void look();
+    void look_at_reading();
+    void look_at_solving();
+    void look_at_teams();
+    void look_at_team(size_t k);
+    bool look_at_end(size_t k);
+    std::string end_of(size_t k) const;
+    std::string end_before(size_t k) const;
+    void look_at_ends();
+    void look_at_model(size_t k);
+    void tell_lost(size_t k, const std::string &why);
+    void look_at_checker();
+    std::string end_of_checker() const;
+    void end_streams();
+    void verdict();
+    void finish(Answer found, const std::string &why);
+    void await_reading();
+    bool await_end(Child &child);
+    void explain_proof(size_t k, const Keeping::Wait &wait_for_end);
+    void end_all();
+    std::string line_of_answer() const;
+    void send_answer();
+};
+
+// main.cpp; lrup-engines-mpi: mpi_run.cpp
+int solve(int count, char **words);
+// main.cpp: if --mpi is given, unless MPI's command started this process
+void start_by_mpi(const Options &options, int count, char **words);
+
+#endif

@@ -1,0 +1,326 @@
+// Unverified, like the whole solver. In an engine's process, except `run_shell` and
+// `solver_command`. A solver of the user's: a command that the shell runs, in its own process
+// group. An engine's process starts it and reads its answer; the proof goes to the filter, like an
+// engine's.
+#include <algorithm>
+#include <cctype>
+#include <cerrno>
+#include <csignal>
+#include <cstdlib>
+#include <fstream>
+
+#include <fcntl.h>
+#include <poll.h>
+#include <sys/prctl.h>
+#include <sys/signalfd.h>
+#include <sys/wait.h>
+#include <unistd.h>
+
+#include "errors.h"
+#include "packed.h"
+#include "solve.h"
+
+namespace {
+
+const size_t LONGEST_WORD = 64;  // longer words are cut
+const char SATISFIABLE_LINE[] = "SATISFIABLE", UNSATISFIABLE_LINE[] = "UNSATISFIABLE";
+
+// The lines `s` and `v` of a solver's output, read word by word, since a line may be very long.
+class Printed {
+  public:
+    explicit Printed(const Engine &engine)
+        : variables(engine.formula->variables), model(engine.model) {
+        std::fill(model, model + variables, -1);  // variables that it leaves out are false
+    }
+
+    void read_from(int &file) {
+        char bytes[4096];
+        ssize_t count;
+        while ((count = read(file, bytes, sizeof bytes)) > 0)
+            for (ssize_t k = 0; k < count; k++) take(bytes[k]);
+        if (count == 0) take('\n'), close_file(file);
+    }
+
+    // 10, 20, or 0 for no answer. The status decides if it is 10 or 20, otherwise the line `s`. A
+    // status that this line contradicts, or 10 without an assignment, is no answer.
+    int answer(int status) const {
+        bool satisfiable = verdict == SATISFIABLE_LINE,
+             unsatisfiable = verdict == UNSATISFIABLE_LINE;
+        if (says_satisfiable(status)) return has_values ? 10 : 0;
+        return (status == 20 && !satisfiable) || (unsatisfiable && status != 10) ? 20 : 0;
+    }
+
+    bool is_unfounded(int status) const { return says_satisfiable(status) && !has_values; }
+
+  private:
+    int variables;
+    signed char *model;
+    std::string word, first, verdict;  // first: the line's first word
+    bool has_values = false;
+
+    bool says_satisfiable(int status) const {
+        return (status == 10 && verdict != UNSATISFIABLE_LINE) ||
+               (status != 20 && verdict == SATISFIABLE_LINE);
+    }
+
+    void take(char letter) {
+        bool ends = isspace(static_cast<unsigned char>(letter));
+        if (!ends && word.size() < LONGEST_WORD) word += letter;
+        if (ends && !word.empty()) take_word();
+        if (letter == '\n') first.clear();
+    }
+
+    void take_word() {
+        if (first.empty())
+            first = word;
+        else if (first == "s")
+            verdict = word;
+        else if (first == "v")
+            take_value();
+        word.clear();
+    }
+
+    void take_value() {
+        int literal;
+        if (!number_read(word.c_str(), &literal)) return;
+        has_values = true;
+        if (literal != 0 && std::abs(literal) <= variables)
+            model[std::abs(literal) - 1] = literal > 0 ? 1 : -1;
+    }
+};
+
+// The last nonempty line of a solver's standard error; only the beginning if the line is long.
+class LastLine {
+  public:
+    void read_from(int &file) {
+        char bytes[4096];
+        ssize_t count = -1;
+        while (file >= 0 && (count = read(file, bytes, sizeof bytes)) > 0)
+            for (ssize_t k = 0; k < count; k++) take(bytes[k]);
+        if (file >= 0 && count == 0) close_file(file);
+    }
+
+    void copy_to(char (&place)[LONGEST_CAUSE]) const {
+        const std::string &found = line.empty() ? last : line;
+        found.copy(place, found.size());
+    }
+
+  private:
+    std::string line, last;
+
+    void take(char letter) {
+        if (letter == '\n' && !line.empty()) last = std::move(line);
+        if (letter == '\n')
+            line.clear();
+        else if (line.size() < LONGEST_CAUSE - 1)
+            line += letter;
+    }
+};
+
+// In the solver's process.
+[[noreturn]] void run_shell(const std::string &command, const std::vector<int> &files, int out,
+                            int error) {
+    setpgid(0, 0);
+    prctl(PR_SET_PDEATHSIG, SIGKILL);
+    sigset_t none;
+    sigemptyset(&none);
+    sigprocmask(SIG_SETMASK, &none, nullptr);
+    signal(SIGINT, SIG_DFL);
+    dup2(open("/dev/null", O_RDONLY), STDIN_FILENO);
+    dup2(out, STDOUT_FILENO);
+    if (error >= 0) dup2(error, STDERR_FILENO);
+    for (int file : files) fcntl(file, F_SETFD, 0);  // the command opens them by their numbers
+    execl("/bin/sh", "sh", "-c", command.c_str(), nullptr);
+    _exit(127);
+}
+
+// Signals for the solver come to this process: SIGTERM instead of SIGKILL, and SIGTSTP instead of
+// SIGSTOP.
+int open_signals() {
+    sigset_t taken;
+    sigemptyset(&taken);
+    for (int number : { SIGTERM, SIGTSTP, SIGCONT, SIGCHLD }) sigaddset(&taken, number);
+    sigprocmask(SIG_BLOCK, &taken, nullptr);
+    prctl(PR_SET_PDEATHSIG, SIGTERM);
+    prctl(PR_SET_CHILD_SUBREAPER, 1);
+    return signalfd(-1, &taken, SFD_CLOEXEC | SFD_NONBLOCK);
+}
+
+// True if the solver has to be ended.
+bool hand_on(int signals, pid_t group) {
+    signalfd_siginfo found;
+    bool ends = false;
+    while (read(signals, &found, sizeof found) == sizeof found) {
+        if (found.ssi_signo == SIGTSTP) kill(-group, SIGSTOP);
+        if (found.ssi_signo == SIGCONT) kill(-group, SIGCONT);
+        ends |= found.ssi_signo == SIGTERM;
+    }
+    return ends;
+}
+
+// Ends what the solver has left, too: its orphans are children of this process. Until the group
+// gets the signal, nobody has waited for its leader, so no other process or group can have that id.
+// Returns the leader's status, as from wait.
+int end_all(pid_t group) {
+    int status = 0;
+    kill(-group, SIGKILL);
+    while (waitpid(group, &status, 0) < 0 && errno == EINTR) {}
+    while (waitpid(-group, nullptr, 0) > 0 || errno == EINTR) {}
+    for (bool any = true; any;) {
+        std::ifstream list("/proc/thread-self/children");
+        any = false;
+        for (pid_t child; list >> child; any = true) kill(child, SIGKILL);
+        if (any) waitpid(-1, nullptr, 0);
+    }
+    return status;
+}
+
+// Whether the process has ended. It isn't waited for.
+bool has_ended(pid_t pid) {
+    siginfo_t end = {};
+    return waitid(P_PID, id_t(pid), &end, WEXITED | WNOHANG | WNOWAIT) == 0 && end.si_pid == pid;
+}
+
+// The status, as from wait; 0 if the solver has to be ended.
+int wait_for_solver(pid_t group, int signals, int out, int error, Printed &printed,
+                    LastLine &last) {
+    bool is_told = false, is_over = false;
+    while (!is_told && !is_over) {
+        pollfd list[] = { { signals, POLLIN, 0 }, { out, POLLIN, 0 }, { error, POLLIN, 0 } };
+        poll(list, 3, -1);
+        is_told = hand_on(signals, group);
+        is_over = !is_told && has_ended(group);
+        if (out >= 0) printed.read_from(out);
+        last.read_from(error);
+    }
+    int status = end_all(group);
+    return is_over ? status : 0;
+}
+
+}  // namespace
+
+// In the first process. Neither path needs quotes, and both also work within quotes. Inserted paths
+// aren't searched again.
+std::string solver_command(const std::string &command, const std::string &formula,
+                           const std::string &proof) {
+    static const std::string names[] = { "%formula", "%proof" };
+    const std::string *values[] = { &formula, &proof };
+    std::string found;
+    for (size_t at = 0; at < command.size();) {
+        size_t k = 0;
+        while (k < 2 && command.compare(at, names[k].size(), names[k]) != 0) k++;
+        found += k < 2 ? *values[k] : command.substr(at, 1);
+        at += k < 2 ? names[k].size() : 1;
+    }
+    return found;
+}
+
+// Holds the proof open until the answer is stored. With -v the solver's standard error is the
+// user's.
+void solver_process(const Engine &engine, const std::string &command,
+                    const std::vector<int> &files) {
+    Printed printed(engine);
+    LastLine last;
+    int signals = open_signals();
+    Pipe out = make_pipe(0), error;
+    if (!engine.options->verbose) error = make_pipe(0);
+    for (int file : { out.read, error.read }) fcntl(file, F_SETFL, O_NONBLOCK);
+    pid_t pid = signals < 0 ? -1 : fork();
+    if (pid == 0) run_shell(command, files, out.write, error.write);
+    if (pid < 0) _exit(127);
+    setpgid(pid, pid);
+    STORE(engine.shared->engine_statuses[engine.number - 1].group, pid);
+    close_file(out.write);
+    close_file(error.write);
+    int status = wait_for_solver(pid, signals, out.read, error.read, printed, last);
+    STORE(engine.shared->engine_statuses[engine.number - 1].group, 0);
+    last.copy_to(engine.shared->engine_statuses[engine.number - 1].last_words);
+    int exited = WIFEXITED(status) ? WEXITSTATUS(status) : 0, answer = printed.answer(exited);
+    if (printed.is_unfounded(exited))
+        STORE(engine.shared->engine_statuses[engine.number - 1].unfounded, 1);
+    if (answer != 0) STORE(engine.shared->engine_statuses[engine.number - 1].answer, answer);
+    if (WIFEXITED(status)) _exit(WEXITSTATUS(status));
+    signal(WTERMSIG(status), SIG_DFL);
+    sigset_t none;
+    sigemptyset(&none);
+    sigprocmask(SIG_SETMASK, &none, nullptr);
+    raise(WTERMSIG(status));
+    _exit(127);
+}
+
+// In a process that copies a proof: which, and what the first process knows of it.
+static EngineStatus *proof_status;
+static std::string proof_name;
+
+// In that process. The first process says why the proof can't be read, and names it.
+static void end_unread(const char *cause) {
+    std::string text = cause, name = proof_name + ": ";
+    if (text.compare(0, name.size(), name) == 0) text.erase(0, name.size());
+    text.copy(proof_status->last_words, LONGEST_CAUSE - 1);
+    _exit(1);
+}
+
+namespace {
+
+// The pipes of filters that share a proof. A pipe whose filter has ended is left out.
+class ProofPipes {
+  public:
+    explicit ProofPipes(const std::vector<int> &files) {
+        signal(SIGPIPE, SIG_IGN);
+        for (int file : files) {
+            fcntl(file, F_SETFL, O_NONBLOCK);
+            list.push_back({ file, POLLOUT, 0 });
+        }
+    }
+
+    // A pipe may be full while others need these bytes, so none waits for another one within them.
+    // False if no filter is left.
+    bool write(const char *bytes, size_t length) {
+        std::vector<size_t> written(list.size());
+        for (;;) {
+            std::vector<pollfd> full;
+            for (size_t k = 0; k < list.size(); k++) {
+                if (list[k].fd >= 0) write_to(list[k].fd, bytes, length, written[k]);
+                if (list[k].fd >= 0 && written[k] < length) full.push_back(list[k]);
+            }
+            if (full.empty()) break;
+            poll(full.data(), full.size(), -1);
+        }
+        return std::any_of(list.begin(), list.end(), [](const pollfd &one) { return one.fd >= 0; });
+    }
+
+  private:
+    std::vector<pollfd> list;
+
+    static void write_to(int &file, const char *bytes, size_t length, size_t &written) {
+        ssize_t count = 0;
+        while (written < length && (count = ::write(file, bytes + written, length - written)) > 0)
+            written += size_t(count);
+        if (count < 0 && errno != EAGAIN && errno != EINTR) close_file(file);
+    }
+};
+
+}  // namespace
+
+// Copies an existing proof, as if a solver had ended with 20.
+void proof_process(const Engine &engine, const std::string &path, const std::vector<int> &files) {
+    std::vector<char> bytes(1 << 16);
+    ProofPipes pipes(files);
+    proof_status = &engine.shared->engine_statuses[engine.number - 1];
+    proof_name = path;
+    errors_handle(end_unread);
+    Unpacking unpacking = {};
+    bool is_packed = path != "-" && packer_of(path.c_str());
+    int file = is_packed ? unpacking_open(&unpacking, path.c_str()) : open_if_possible(path);
+    EngineStatus &status = engine.shared->engine_statuses[engine.number - 1];
+    ssize_t count = -1;
+    while (file >= 0 && (count = read(file, bytes.data(), bytes.size())) != 0) {
+        if (count < 0 && errno != EINTR) break;
+        if (count > 0 && !pipes.write(bytes.data(), size_t(count))) _exit(1);
+        if (count > 0) STORE(status.proof_read, status.proof_read + uint64_t(count));
+    }
+    if (count < 0) end_unread(error_text().c_str());
+    unpacking_end(&unpacking, path.c_str());
+    STORE(status.answer, 20);
+    _exit(20);
+}
