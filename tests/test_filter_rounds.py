@@ -22,9 +22,9 @@ from typing import IO, Dict, Iterator, List, NamedTuple, Optional, Sequence, Set
 import pytest
 
 from harness import (BUILDS, FILTER, FOUR, LIMIT, LRUP_RECHECK, PROGRAM, SANITIZE, SANITIZING, Ran,
-                     added, dimacs, example, for_tests, generated, lacking, named, needs, piped,
-                     report, run, sanitized_filter, sanitizer, sources_of, started, until,
-                     unwatched, waiting, watched_ends, written)
+                     added, dimacs, example, for_tests, generated, lacking, link_over, named,
+                     needs, piped, report, run, sanitized_filter, sanitizer, sources_of, started,
+                     until, unwatched, waiting, watched_ends, written)
 from proof_forms import FORMS, Step, read_formula, read_steps
 from rounds import last
 from solving import in_place_of_lrupd, of_process
@@ -401,12 +401,7 @@ def test_a_file_in_place_of_the_fifo(how: str, tmp_path: Path) -> None:
     with filtering([written(FOUR, tmp_path), proof], tmp_path) as running:
         assert running.stdout and running.stderr
         running.stdout.readline()
-        place = tmp_path / "d" / "round-1.stream-1"
-        place.unlink()
-        if how == "link":
-            place.symlink_to(mine)
-        else:
-            os.link(mine, place)
+        link_over(tmp_path / "d" / "round-1.stream-1", mine, how)
         said, status = running.stderr.read().decode(), running.wait(LIMIT)
     assert said == "lrup-exact: d/round-1.stream-1: another file is in its place\n"
     assert status == 1

@@ -19,8 +19,8 @@ from typing import Dict, List, Mapping, Sequence
 
 import pytest
 
-from harness import (LIMIT, LRUP_RECHECK, PROGRAM, Ran, dimacs, example, generated, named,
-                     random_clauses, run, until, written)
+from harness import (LIMIT, LRUP_RECHECK, PROGRAM, Ran, dimacs, example, generated, link_over,
+                     named, random_clauses, run, until, written)
 from solving import (EARLY, Answer, check_again, children_of, command, end_group, in_environment,
                      in_place_of_lrupd, is_alive, kill_children, of_process, random_formula,
                      rests_on, sleep, solve, want_answer)
@@ -441,11 +441,7 @@ def test_a_file_in_place_of_a_stream(how: str, tmp_path: Path) -> None:
         number, = running.rounds("sizes")
         place = kept / f"round-{number}.stream-1"
         until("it is made", place.exists)
-        place.unlink()
-        if how == "link":
-            place.symlink_to(mine)
-        else:
-            os.link(mine, place)
+        link_over(place, mine, how)
         os.kill(running.children["filter 1"], signal.SIGCONT)
         answer = running.end()
     assert ((answer.answers, answer.said, answer.status)

@@ -184,6 +184,18 @@ def written(text: Union[str, bytes], folder: Path, name: str = "formula.cnf") ->
     return path
 
 
+def link_over(place: Path, target: Path, how: str) -> None:
+    """Replaces a file by a symbolic link ("link") or a hard link ("file") to another one, in one
+    step: a program that looks at the place never finds it empty."""
+    with tempfile.TemporaryDirectory(dir=target.parent) as folder:
+        new = Path(folder) / "new"
+        if how == "link":
+            new.symlink_to(target)
+        else:
+            os.link(target, new)
+        new.rename(place)
+
+
 def piped(path: Path) -> Path:
     path.parent.mkdir(exist_ok=True)
     os.mkfifo(path)
