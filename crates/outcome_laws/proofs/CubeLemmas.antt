@@ -17,7 +17,7 @@ use Rattle.stream_check.specs.lemmas.MappingLemmas.{LooksOn, line_maps}
 use Rattle.stream_check.specs.Judging.{JudgesLine, AreGood, report_of, EndsAfter, at_bad_line, at_bad_text, at_memory, at_end}
 use Rattle.stream_check.specs.lemmas.ReportLemmas.{all_only_empty}
 use Rattle.outcome_laws.specs.Outcomes.{bare_params, bare_report}
-use Rattle.outcome_laws.specs.Laws.{NoCubeJudgesAlike}
+use Rattle.outcome_laws.specs.Laws.{CubeIsIrrelevant}
 
 -- Lines
 
@@ -82,8 +82,8 @@ ends_bare c lines rest end back report (at_memory lead ids more text fits block 
     (says_bare c lines _ _ report says)
 ends_bare c lines rest end back report (at_end pending no_block says) = at_end pending no_block (says_bare c lines _ _ report says)
 
-pub no_cube_judges_alike : NoCubeJudgesAlike
-no_cube_judges_alike c bytes end blocks report j = record {
+pub cube_is_irrelevant : CubeIsIrrelevant
+cube_is_irrelevant c bytes end blocks report j = record {
   lines = j.lines;
   rest = j.rest;
   front = j.front;

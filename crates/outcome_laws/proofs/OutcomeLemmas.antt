@@ -16,7 +16,7 @@ use Rattle.run_files.specs.Files.{FilesView, IsFormulaAt}
 use Rattle.run_files.specs.Asked.{Text}
 use Rattle.command.specs.Rounds.{Round, WereRounds}
 use Rattle.outcome_laws.specs.Outcomes.{SayTheSame, layout_in}
-use Rattle.outcome_laws.specs.Laws.{SameBytesSayTheSame, OutcomesAgree}
+use Rattle.outcome_laws.specs.Laws.{SameBytesSameReport, OutcomesAgree}
 use Rattle.outcome_laws.proofs.CheckLemmas.{Check, check_of, run_of, observation_of_file, observed_of}
 
 -- a text has only one formula: the law of `dimacs`
@@ -55,7 +55,7 @@ module _ (files : FilesView) (given : CommandLine) (cube : CubeValue) (round : R
   first_text text known = subst (IsFormulaText text) (sym were.rounds.formula_is)
       (is_text files given.formula.now were.formula were.next text known were.is_formula)
 
-pub outcomes_agree : OneFormula → SameBytesSayTheSame → (files : FilesView) (others : FilesView) → OutcomesAgree files others
+pub outcomes_agree : OneFormula → SameBytesSameReport → (files : FilesView) (others : FilesView) → OutcomesAgree files others
 outcomes_agree one_formula same files others given other_given cube other_cube round other s text whole report other_report were
     others_were tries sizes known others_known cites on there =
     let formulas : other.formula ≡ round.formula =

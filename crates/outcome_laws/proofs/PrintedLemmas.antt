@@ -28,7 +28,7 @@ use Rattle.run_files.specs.Asked.{Text}
 use Rattle.command.specs.Rounds.{EndsWithReport, HaveEnded, Round, last_text}
 use Rattle.outcome_laws.specs.Inconclusive.{FallsShort, HasStopped, InconclusiveBecause, no_report, not_kept}
 use Rattle.outcome_laws.specs.Inconclusive.{short, stopped, under_cube, unwritten}
-use Rattle.outcome_laws.specs.ValidLaws.{ValidRoundsSay}
+use Rattle.outcome_laws.specs.ValidLaws.{OutcomeOfValidRounds}
 use Rattle.outcome_laws.specs.Printed.{NoBadLineShown, ShowsBadLine}
 use Rattle.outcome_laws.proofs.RoundLemmas.{some_number}
 use Rattle.outcome_laws.proofs.StreamLemmas.{Cut}
@@ -311,7 +311,7 @@ module _ (s count : ℕ) (out : SinkChange) (shows : ShowsBadLine s out) where
     shown_so (unwritten ends failed few (inr (written, why)) is) =
         absurd (none_of_short ends.last written (some_of ends) ends.printed why)
 
-pub no_bad_line_shown : (files : FilesView) → ValidRoundsSay files 1 → NoBadLineShown files
+pub no_bad_line_shown : (files : FilesView) → OutcomeOfValidRounds files 1 → NoBadLineShown files
 no_bad_line_shown files law words s count after out err status ask ends shows =
     elim (law words s count after out err status ask ends) [
       | inl is ↦ inl is

@@ -29,13 +29,13 @@ use Rattle.command.specs.Rounds.{ProgramEnds, Round, RoundsEnd, WereRounds}
 use Rattle.command.specs.lemmas.SavedLemmas.{carried}
 use Rattle.run_files.specs.declared.fault.CommandFault.{CommandFault}
 use Rattle.run_files.specs.declared.fault.CommandFault.TheVariants as faults
-use Rattle.outcome_laws.specs.Laws.{SameWordsAskAlike}
+use Rattle.outcome_laws.specs.Laws.{OneCommandLine}
 use Rattle.outcome_laws.specs.Outcomes.{layout_in}
 use Rattle.outcome_laws.specs.Inconclusive.{FallsShort, HasStopped, InconclusiveBecause}
 use Rattle.outcome_laws.specs.Inconclusive.{no_report, not_kept, short, stopped, under_cube, unwritten}
 use Rattle.outcome_laws.specs.Valid.{AreValidAlone, AreValidRoundRobin, AreValidInOrder, AskForValidRounds, IsAskedOf, IsProvided}
 use Rattle.outcome_laws.specs.Valid.{IsRefutedAlone, IsRefutedRoundRobin, IsRefutedInOrder, RoundAsk}
-use Rattle.outcome_laws.specs.ValidLaws.{ValidOrdersSay, ValidRoundsSay, ValidTurnsSay}
+use Rattle.outcome_laws.specs.ValidLaws.{OutcomeOfValidOrders, OutcomeOfValidRounds, OutcomeOfValidTurns}
 use Rattle.outcome_laws.proofs.CheckLemmas.{Check, check_of, never_under}
 use Rattle.outcome_laws.proofs.OutcomeLemmas.{OneFormula, first_text}
 use Rattle.outcome_laws.proofs.ValidLemmas.{IsOfMachine, NoFormulaFault, of_machine, text_cnf}
@@ -178,7 +178,7 @@ module _ {its : Effects} {given : CommandLine} {cube : CubeValue} (round : Round
 module _ (Mode : Bool → Type 0) (Before Last : RoundAsk) (Why : Reason) (at : List Report → Lines) (ends_so : EndsSo Mode Before Why)
     (refutes_so : RefutesSo Mode Last Why at)
     (bare : EmptyCubeReported)
-    (one_formula : OneFormula) (no_fault : NoFormulaFault) (alike : SameWordsAskAlike) (files : FilesView) (words : List Text)
+    (one_formula : OneFormula) (no_fault : NoFormulaFault) (alike : OneCommandLine) (files : FilesView) (words : List Text)
     (last : ℕ) (ask : AskForValidRounds Before Last files words last)
     (mode : (given : CommandLine) → IsCommandLineOf words given → Mode given.serial) where
   -- some stream of the round was stopped
@@ -419,23 +419,23 @@ module _ (Mode : Bool → Type 0) (Before Last : RoundAsk) (Why : Reason) (at : 
     rounds_say (inl ends) = reported_so ends out.failed refl ends.status_is
     rounds_say (inr ends) = failed_so ends ends.cause
 
-pub valid_rounds_say : OneFormula → NoFormulaFault → EmptyCubeReported → SameWordsAskAlike → ValidReported → ValidBegins
-    → ValidEmpty → (files : FilesView) (last : ℕ) → ValidRoundsSay files last
-valid_rounds_say one_formula no_fault bare alike reported begins empty files last words s count after out err status ask =
+pub outcome_of_valid_rounds : OneFormula → NoFormulaFault → EmptyCubeReported → OneCommandLine → ValidReported → ValidBegins
+    → ValidEmpty → (files : FilesView) (last : ℕ) → OutcomeOfValidRounds files last
+outcome_of_valid_rounds one_formula no_fault bare alike reported begins empty files last words s count after out err status ask =
     rounds_say Either AreValidAlone (IsRefutedAlone s count) Cut (λ reports. (s, count)) (ends_alone reported)
     (refutes_alone begins empty s count) bare one_formula no_fault alike files words last ask (λ given line. tt) after out err
     status
 
-pub valid_orders_say : OneFormula → NoFormulaFault → EmptyCubeReported → SameWordsAskAlike → ValidTogether → TogetherBegins
-    → ValidEmpty → (files : FilesView) (last : ℕ) → ValidOrdersSay files last
-valid_orders_say one_formula no_fault bare alike together begins empty files last words s count after out err status ask =
+pub outcome_of_valid_orders : OneFormula → NoFormulaFault → EmptyCubeReported → OneCommandLine → ValidTogether → TogetherBegins
+    → ValidEmpty → (files : FilesView) (last : ℕ) → OutcomeOfValidOrders files last
+outcome_of_valid_orders one_formula no_fault bare alike together begins empty files last words s count after out err status ask =
     rounds_say Either AreValidInOrder (IsRefutedInOrder s count) Lacking (λ reports. (s, count)) (ends_in_order together)
     (refutes_in_order begins empty s count) bare one_formula no_fault alike files words last ask (λ given line. tt) after
     out err status
 
-pub valid_turn_rounds_say : OneFormula → NoFormulaFault → EmptyCubeReported → SameWordsAskAlike → ValidRoundRobin → ValidEmpty
-    → (files : FilesView) (last : ℕ) → ValidTurnsSay files last
-valid_turn_rounds_say one_formula no_fault bare alike round_robin empty files last words s after out err status ask on_one ending =
+pub outcome_of_valid_turn_rounds : OneFormula → NoFormulaFault → EmptyCubeReported → OneCommandLine → ValidRoundRobin → ValidEmpty
+    → (files : FilesView) (last : ℕ) → OutcomeOfValidTurns files last
+outcome_of_valid_turn_rounds one_formula no_fault bare alike round_robin empty files last words s after out err status ask on_one ending =
     let on_one_so : (given : CommandLine) → IsCommandLineOf words given → given.serial ≡ true =
     λ given line. line.said.serial ∙ sym ask.asks.command_line.said.serial ∙ on_one in
     elim (rounds_say OnOne AreValidRoundRobin (IsRefutedRoundRobin s) Cut cut_first (ends_round_robin round_robin)

@@ -13,9 +13,9 @@ use Rattle.stream_check.specs.Streams.{Stream, InputObservation, JudgesStream, R
 use Rattle.run_laws.specs.Groups.{IsRun}
 use Rattle.run_laws.specs.GroupLaws.{SameBytesAgree}
 use Rattle.outcome_laws.specs.Outcomes.{bare_params, bare_report}
-use Rattle.outcome_laws.specs.Laws.{NoCubeJudgesAlike, SameBytesSayTheSame}
+use Rattle.outcome_laws.specs.Laws.{CubeIsIrrelevant, SameBytesSameReport}
 
-judges_bare : NoCubeJudgesAlike → (c : StreamParams) (stream : Stream) (blocks : List History) (report : Report)
+judges_bare : CubeIsIrrelevant → (c : StreamParams) (stream : Stream) (blocks : List History) (report : Report)
     → JudgesStream c stream blocks report → JudgesStream (bare_params c) stream blocks (bare_report report)
 judges_bare law c stream blocks report judged = λ end its. law c stream.bytes end blocks report (judged end its)
 
@@ -23,14 +23,14 @@ judges_bare law c stream blocks report judged = λ end its. law c stream.bytes e
 abbrev pub bare_run_params : RunParamsValue → RunParamsValue
 bare_run_params run_params = record { layout = run_params.layout; cube = []; tries = run_params.tries }
 
-judged_bare : NoCubeJudgesAlike
+judged_bare : CubeIsIrrelevant
     → (run_params : RunParamsValue) (set : ℕ → Bool) (h : History) (s : ℕ) (streams : List Stream) (reports : List Report)
     → AreJudgedIn run_params set h s streams reports → AreJudgedIn (bare_run_params run_params) set h s streams (map bare_report reports)
 judged_bare law run_params set h s streams reports judged =
     each_map _ bare_report s streams reports judged (λ t stream report j member.
     let by = j member in (by.0, by.1, judges_bare law (stream_params run_params t) stream by.0 report by.2))
 
-run_bare : NoCubeJudgesAlike → (f : Cnf) (run_params : RunParamsValue) (observed : List InputObservation) (reports : List Report)
+run_bare : CubeIsIrrelevant → (f : Cnf) (run_params : RunParamsValue) (observed : List InputObservation) (reports : List Report)
     → IsRun f run_params observed reports → IsRun f (bare_run_params run_params) observed (map bare_report reports)
 run_bare law f run_params observed reports a = record {
   streams = a.streams;
@@ -51,8 +51,8 @@ same_run_params run_params other layout tries =
     ap (λ p. record { layout = p; cube = []; tries = other.tries }) layout
     ∙ ap (λ (n : ℕ). record { layout = run_params.layout; cube = []; tries = n }) tries
 
-pub same_bytes_say_the_same : NoCubeJudgesAlike → SameBytesAgree → SameBytesSayTheSame
-same_bytes_say_the_same law agree f run_params other_run_params s whole known other_observed observation other_observation reports
+pub same_bytes_same_report : CubeIsIrrelevant → SameBytesAgree → SameBytesSameReport
+same_bytes_same_report law agree f run_params other_run_params s whole known other_observed observation other_observation reports
     other_reports report other
     fits layout tries cites a b here entry there is_known says too fine good =
     let mine = run_bare law f run_params known reports a in

@@ -26,7 +26,7 @@ use Rattle.run_files.specs.declared.fault.CommandFault.{CommandFault}
 use Rattle.run_files.specs.declared.fault.CommandFault.TheVariants as faults
 use Rattle.outcome_laws.specs.Outcomes.{layout_in}
 use Rattle.outcome_laws.specs.Valid.{AskWell}
-use Rattle.outcome_laws.specs.Laws.{SameWordsAskAlike}
+use Rattle.outcome_laws.specs.Laws.{OneCommandLine}
 use Rattle.outcome_laws.proofs.OutcomeLemmas.{OneFormula, text_of, is_text}
 
 -- The formula of a text
@@ -56,7 +56,7 @@ NoFormulaFault = (bytes : List ℕ) (f : Cnf) (fault : DimacsFault) → IsFormul
 
 -- A fault of round 1
 
-module _ (one_formula : OneFormula) (no_fault : NoFormulaFault) (alike : SameWordsAskAlike) (files : FilesView) where
+module _ (one_formula : OneFormula) (no_fault : NoFormulaFault) (alike : OneCommandLine) (files : FilesView) where
   -- if FORMULA's file holds a formula, the formula isn't refused
   not_refused : (given : CommandLine) (text : List ℕ) (f : Cnf) (fault : DimacsFault) (after : files.its.State)
       → files.contents given.formula.now ≡ Some text → IsFormulaText text f → ¬ IsReadCause files given (faults.Refused fault) after

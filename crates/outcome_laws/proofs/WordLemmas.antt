@@ -2,7 +2,7 @@
 use Rattle.std.proofs.Common.{◌≡◌, ◌∙◌, ℕ, Some, length, sym, ap}
 use Rattle.command_line.specs.declared.sizes.Sizes.{Sizes}
 use Rattle.run_files.specs.Asked.{sizes_of}
-use Rattle.outcome_laws.specs.Laws.{SameWordsAskAlike}
+use Rattle.outcome_laws.specs.Laws.{OneCommandLine}
 
 same_sizes : (a b : Sizes) → a.streams ≡ b.streams → a.lines ≡ b.lines → a.room ≡ b.room → a ≡ b
 same_sizes a b streams lines room =
@@ -10,8 +10,8 @@ same_sizes a b streams lines room =
     ∙ ap (λ (n : ℕ). record { streams = b.streams; lines = n; room = a.room }) lines
     ∙ ap (λ (n : ℕ). record { streams = b.streams; lines = b.lines; room = n }) room
 
-pub same_words_ask_alike : SameWordsAskAlike
-same_words_ask_alike words given other mine theirs =
+pub one_command_line : OneCommandLine
+one_command_line words given other mine theirs =
     let a = mine.said in
     let b = theirs.said in
     let streams : Some other.streams ≡ Some given.streams = sym b.streams ∙ a.streams in

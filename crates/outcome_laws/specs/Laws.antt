@@ -26,8 +26,8 @@ use Rattle.outcome_laws.specs.Outcomes.{bare_params, bare_report, layout_in, Say
 
 -- if a stream is judged under a cube, it is judged without a cube, too, with a report that says the
 -- same except about clauses within the cube
-abbrev pub NoCubeJudgesAlike : Type 0
-NoCubeJudgesAlike = (c : StreamParams) (bytes : List ℕ) (end : StreamEnd) (blocks : List History)
+abbrev pub CubeIsIrrelevant : Type 0
+CubeIsIrrelevant = (c : StreamParams) (bytes : List ℕ) (end : StreamEnd) (blocks : List History)
     (report : Report)
     → JudgesBlocks c bytes end blocks report
     → JudgesBlocks (bare_params c) bytes end blocks (bare_report report)
@@ -37,8 +37,8 @@ NoCubeJudgesAlike = (c : StreamParams) (bytes : List ℕ) (end : StreamEnd) (blo
 -- Then its two reports say the same except about clauses within a cube, unless one of them says
 -- that memory ran out or a read failed. The cubes, the other streams and the use of threads make no
 -- difference.
-abbrev pub SameBytesSayTheSame : Type 0
-SameBytesSayTheSame =
+abbrev pub SameBytesSameReport : Type 0
+SameBytesSameReport =
     (f : Cnf) (run_params other_run_params : RunParamsValue) (s : ℕ) (whole : List ℕ)
     (observed other_observed : List InputObservation)
     (observation other_observation : InputObservation)
@@ -54,8 +54,8 @@ SameBytesSayTheSame =
     → SayTheSame report other_report
 
 -- Two command lines of the same words have the same tries, sizes, streams and formula.
-abbrev pub SameWordsAskAlike : Type 0
-SameWordsAskAlike = (words : List Text) (given other : CommandLine) → IsCommandLineOf words given
+abbrev pub OneCommandLine : Type 0
+OneCommandLine = (words : List Text) (given other : CommandLine) → IsCommandLineOf words given
     → IsCommandLineOf words other
     → (other.tries ≡ given.tries) × (sizes_of other ≡ sizes_of given)
     × (other.streams ≡ given.streams) × (other.formula.now ≡ given.formula.now)

@@ -16,8 +16,8 @@ use Rattle.outcome_laws.specs.Valid.{AreValidAlone, AreValidRoundRobin, AreValid
 -- saved; with 8, and then there are assumed literals, and the report says 'unsatisfiable under
 -- assumptions'; or with 3. With 3, and in the last round also with 8 and 9, the report says that
 -- memory ran out or a read failed, in the refutation's lines or in some stream of an earlier round.
-abbrev pub ValidRoundsSay : FilesView → (last : ℕ) → Type 0
-ValidRoundsSay files last = (words : List Text) (s count : ℕ) (after : files.its.State)
+abbrev pub OutcomeOfValidRounds : FilesView → (last : ℕ) → Type 0
+OutcomeOfValidRounds files last = (words : List Text) (s count : ℕ) (after : files.its.State)
     (out err : SinkChange) (status : ℕ)
     → AskForValidRounds AreValidAlone (IsRefutedAlone s count) files words last
     → ProgramEnds files words after out err status
@@ -26,11 +26,11 @@ ValidRoundsSay files last = (words : List Text) (s count : ℕ) (after : files.i
 
 -- Suppose that in each round before the last one, lines of all streams have a valid order, and that
 -- in the last round, lines of some streams have a valid order in which stream s adds the empty
--- clause. Then the program ends as in `ValidRoundsSay`, with one more reason for a stream to stop:
--- a line in such an order cites another stream's clause that wasn't there yet or was no longer
+-- clause. Then the program ends as in `OutcomeOfValidRounds`, with one more reason for a stream to
+-- stop: a line in such an order cites another stream's clause that wasn't there yet or was no longer
 -- there.
-abbrev pub ValidOrdersSay : FilesView → (last : ℕ) → Type 0
-ValidOrdersSay files last = (words : List Text) (s count : ℕ) (after : files.its.State)
+abbrev pub OutcomeOfValidOrders : FilesView → (last : ℕ) → Type 0
+OutcomeOfValidOrders files last = (words : List Text) (s count : ℕ) (after : files.its.State)
     (out err : SinkChange) (status : ℕ)
     → AskForValidRounds AreValidInOrder (IsRefutedInOrder s count) files words last
     → ProgramEnds files words after out err status
@@ -40,8 +40,8 @@ ValidOrdersSay files last = (words : List Text) (s count : ℕ) (after : files.i
 -- order that takes the streams in turn, and that in the last round some line of stream s adds the
 -- empty clause. Then the program ends as if each stream were valid on its own, but in the last
 -- round, too, memory may have run out or a read may have failed in any stream.
-abbrev pub ValidTurnsSay : FilesView → (last : ℕ) → Type 0
-ValidTurnsSay files last = (words : List Text) (s : ℕ) (after : files.its.State)
+abbrev pub OutcomeOfValidTurns : FilesView → (last : ℕ) → Type 0
+OutcomeOfValidTurns files last = (words : List Text) (s : ℕ) (after : files.its.State)
     (out err : SinkChange) (status : ℕ)
     → (ask : AskForValidRounds AreValidRoundRobin (IsRefutedRoundRobin s) files words last)
     → ask.asks.given.serial ≡ true

@@ -1,10 +1,10 @@
 //! Laws of outcomes. Each function does nothing; its contract is the law.
 ghost use Rattle.std.specs.Prelude.{ℕ};
-ghost use Rattle.outcome_laws.specs.Laws.{NoCubeJudgesAlike, OneRoundAlone, SameBytesSayTheSame, SameWordsAskAlike, OutcomesAgree, Status0HasACommandLine};
+ghost use Rattle.outcome_laws.specs.Laws.{CubeIsIrrelevant, OneRoundAlone, SameBytesSameReport, OneCommandLine, OutcomesAgree, Status0HasACommandLine};
 ghost use Rattle.outcome_laws.specs.Printed.{NoBadLineShown};
 ghost use Rattle.outcome_laws.specs.Refuting.{OutcomesRefute, OutcomesRefuteUnder};
 ghost use Rattle.outcome_laws.specs.Serial.{SerialOutcomesAgree};
-ghost use Rattle.outcome_laws.specs.ValidLaws.{ValidOrdersSay, ValidRoundsSay, ValidTurnsSay};
+ghost use Rattle.outcome_laws.specs.ValidLaws.{OutcomeOfValidOrders, OutcomeOfValidRounds, OutcomeOfValidTurns};
 
 use checkpoint::laws::{
     entails_itself, entails_onward, files_refute, files_refute_under, refutes_back,
@@ -19,24 +19,24 @@ use stream_check::laws::empty_cube_reported;
 
 /// If a stream is judged under a cube, it can also be judged without a cube, with a report that is
 /// the same except about clauses within the cube.
-pub fn no_cube_judges_alike()
-    ensures { NoCubeJudgesAlike }
+pub fn cube_is_irrelevant()
+    ensures { CubeIsIrrelevant }
 {}
 
 /// Take two runs of one formula with the same layout and tries, and a stream that cites only its
 /// own clauses and the formula's. If its readers have the same bytes at the start, and neither
 /// report says that memory ran out or a read failed, the two reports are the same except about
 /// clauses within a cube. The cubes, the other streams and the use of threads make no difference.
-pub fn same_bytes_say_the_same()
-    ensures { SameBytesSayTheSame }
+pub fn same_bytes_same_report()
+    ensures { SameBytesSameReport }
 {
-    no_cube_judges_alike();
+    cube_is_irrelevant();
     same_bytes_agree();
 }
 
 /// Two command lines of the same words have the same tries, sizes, streams and formula.
-pub fn same_words_ask_alike()
-    ensures { SameWordsAskAlike }
+pub fn one_command_line()
+    ensures { OneCommandLine }
 {}
 
 /// If the words don't ask for rounds, either there is only one round, and nothing is done to the
@@ -55,7 +55,7 @@ pub fn outcomes_agree<F: Machine, G: Machine>(files: &F, others: &G)
     ensures { OutcomesAgree (⟦<F as Viewed>⟧.view files.now) (⟦<G as Viewed>⟧.view others.now) }
 {
     one_formula();
-    same_bytes_say_the_same();
+    same_bytes_same_report();
 }
 
 /// With status 0, the words give a command line, and the bytes read from its FORMULA are a text of
@@ -89,13 +89,13 @@ pub fn serial_outcomes_agree<F: Machine, G: Machine>(files: &F, others: &G)
 /// or 9 if the run ended in the last round, the report says that memory ran out or a read failed,
 /// in the refutation's lines or in some stream of an earlier round. This follows from the clause
 /// `ends` of `command`.
-pub fn valid_rounds_say<F: Machine>(files: &F)
-    ensures { (last : ℕ) → ValidRoundsSay (⟦<F as Viewed>⟧.view files.now) last }
+pub fn outcome_of_valid_rounds<F: Machine>(files: &F)
+    ensures { (last : ℕ) → OutcomeOfValidRounds (⟦<F as Viewed>⟧.view files.now) last }
 {
     one_formula();
     formula_or_fault();
     empty_cube_reported();
-    same_words_ask_alike();
+    one_command_line();
     valid_reported();
     valid_begins();
     valid_empty();
@@ -103,16 +103,16 @@ pub fn valid_rounds_say<F: Machine>(files: &F)
 
 /// Suppose that in each round before the last one, lines of all streams have a valid order, and
 /// that in the last round, lines of some streams have a valid order in which one of them adds the
-/// empty clause. Then the program ends as `valid_rounds_say` says; but a stream may also have
-/// stopped because one of these lines cites another stream's clause that wasn't there yet or was no
-/// longer there.
-pub fn valid_orders_say<F: Machine>(files: &F)
-    ensures { (last : ℕ) → ValidOrdersSay (⟦<F as Viewed>⟧.view files.now) last }
+/// empty clause. Then the program ends as `outcome_of_valid_rounds` says; but a stream may also
+/// have stopped because one of these lines cites another stream's clause that wasn't there yet or
+/// was no longer there.
+pub fn outcome_of_valid_orders<F: Machine>(files: &F)
+    ensures { (last : ℕ) → OutcomeOfValidOrders (⟦<F as Viewed>⟧.view files.now) last }
 {
     one_formula();
     formula_or_fault();
     empty_cube_reported();
-    same_words_ask_alike();
+    one_command_line();
     valid_together();
     together_begins();
     valid_empty();
@@ -120,15 +120,15 @@ pub fn valid_orders_say<F: Machine>(files: &F)
 
 /// Suppose that the words ask for one thread, that in each round lines of all streams have a valid
 /// order that takes the streams in turn, and that in the last round some stream adds the empty
-/// clause. Then the program ends as `valid_rounds_say` says, but in the last round, too, memory may
-/// have run out or a read may have failed in any stream.
-pub fn valid_turn_rounds_say<F: Machine>(files: &F)
-    ensures { (last : ℕ) → ValidTurnsSay (⟦<F as Viewed>⟧.view files.now) last }
+/// clause. Then the program ends as `outcome_of_valid_rounds` says, but in the last round, too,
+/// memory may have run out or a read may have failed in any stream.
+pub fn outcome_of_valid_turn_rounds<F: Machine>(files: &F)
+    ensures { (last : ℕ) → OutcomeOfValidTurns (⟦<F as Viewed>⟧.view files.now) last }
 {
     one_formula();
     formula_or_fault();
     empty_cube_reported();
-    same_words_ask_alike();
+    one_command_line();
     valid_round_robin();
     valid_empty();
 }
@@ -138,30 +138,30 @@ pub fn valid_turn_rounds_say<F: Machine>(files: &F)
 /// 6, for a fault of the machine; with 3 or 8, because memory ran out or a read failed in the
 /// refutation's lines; or with 9 instead of 3 or 8, because a checkpoint or the formula of round 2
 /// couldn't be saved.
-pub fn valid_refutation_says<F: Machine>(files: &F)
-    ensures { ValidRoundsSay (⟦<F as Viewed>⟧.view files.now) 1 }
+pub fn outcome_of_valid_refutation<F: Machine>(files: &F)
+    ensures { OutcomeOfValidRounds (⟦<F as Viewed>⟧.view files.now) 1 }
 {
-    valid_rounds_say(files);
+    outcome_of_valid_rounds(files);
 }
 
 /// If a stream of round 1 is a valid refutation, no bad line of that stream is printed, except with
-/// status 0, or with 7 if the report says 'unsatisfiable'. Only the law `valid_refutation_says` is
-/// needed for this: with status 5 or 6 nothing is printed, and each other report says that the
-/// machine stopped the stream.
+/// status 0, or with 7 if the report says 'unsatisfiable'. Only the law
+/// `outcome_of_valid_refutation` is needed for this: with status 5 or 6 nothing is printed, and
+/// each other report says that the machine stopped the stream.
 pub fn no_bad_line_shown<F: Machine>(files: &F)
     ensures { NoBadLineShown (⟦<F as Viewed>⟧.view files.now) }
 {
-    valid_refutation_says(files);
+    outcome_of_valid_refutation(files);
 }
 
 /// Suppose that in round 1 lines of streams have a valid order, and that one of the lines adds the
-/// empty clause. Then the program ends as `valid_refutation_says` says; or it ends with 3 or 8, or
-/// 9 in their place, because one of these lines cites another stream's clause that wasn't there yet
-/// or was no longer there.
-pub fn valid_order_says<F: Machine>(files: &F)
-    ensures { ValidOrdersSay (⟦<F as Viewed>⟧.view files.now) 1 }
+/// empty clause. Then the program ends as `outcome_of_valid_refutation` says; or it ends with 3 or
+/// 8, or 9 in their place, because one of these lines cites another stream's clause that wasn't
+/// there yet or was no longer there.
+pub fn outcome_of_valid_order<F: Machine>(files: &F)
+    ensures { OutcomeOfValidOrders (⟦<F as Viewed>⟧.view files.now) 1 }
 {
-    valid_orders_say(files);
+    outcome_of_valid_orders(files);
 }
 
 /// Suppose that in round 1, on one thread, lines of all streams have a valid order that takes the
@@ -169,10 +169,10 @@ pub fn valid_order_says<F: Machine>(files: &F)
 /// status 0; with 7, because the report couldn't be written; with 5 or 6, for a fault of the
 /// machine; or with 3 or 8, or 9 in their place, because memory ran out in some stream or a read of
 /// some stream failed.
-pub fn valid_turns_say<F: Machine>(files: &F)
-    ensures { ValidTurnsSay (⟦<F as Viewed>⟧.view files.now) 1 }
+pub fn outcome_of_valid_turns<F: Machine>(files: &F)
+    ensures { OutcomeOfValidTurns (⟦<F as Viewed>⟧.view files.now) 1 }
 {
-    valid_turn_rounds_say(files);
+    outcome_of_valid_turn_rounds(files);
 }
 
 /// Suppose that several runs of the program, each of one round or more, follow one another: each

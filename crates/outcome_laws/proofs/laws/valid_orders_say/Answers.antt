@@ -1,6 +1,0 @@
-use Rattle.outcome_laws.proofs.RoundLemmas.{valid_orders_say as lemma}
-use Rattle.outcome_laws.proofs.laws.valid_orders_say.Goals as goal
-
-pub returns : goal.returns
-returns g c = lemma c.one_formula.ensures c.formula_or_fault.ensures c.empty_cube_reported.ensures
-    c.same_words_ask_alike.ensures c.valid_together.ensures c.together_begins.ensures c.valid_empty.ensures _
