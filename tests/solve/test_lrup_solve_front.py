@@ -33,7 +33,7 @@ HAS_MODEL = "model('++-')"                               # of SATISFIABLE
 # SATISFIABLE has no assignment that makes this literal true.
 PROVES_UNDER = f"stream(1, '5 2 0 1 2 0\\n')\ncheck()\n{ENDS}"
 UNDER_LITERAL = "-2 0\n"
-SOON = ["--time", "1"]
+A_SECOND = ["--time", "1"]
 # lrupd waits for its stream, and is killed.
 KILLED = AGAIN + """
 def killed():
@@ -93,7 +93,7 @@ def test_assumptions(literals: str, body: str, line: str, tmp_path: Path) -> Non
 def test_a_request_with_wrong_numbers(words: str, tmp_path: Path) -> None:
     """lrupd isn't started, although there is a proof."""
     body = f"stream(1, {PROOF!r})\ncheck({words!r})\ntime.sleep(100)"
-    assert_answer(run_with(body, SOON, FOUR, tmp_path), UNKNOWN)
+    assert_answer(run_with(body, A_SECOND, FOUR, tmp_path), UNKNOWN)
 
 
 @pytest.mark.parametrize("numbers", [
@@ -112,7 +112,7 @@ def test_a_request_with_a_wrong_process_or_file(numbers: str, tmp_path: Path) ->
 
 def test_a_second_request(tmp_path: Path) -> None:
     body = f"{PROVES}check()\ntime.sleep(100)"
-    assert_answer(run_with(body, SOON, SATISFIABLE, tmp_path), UNKNOWN)
+    assert_answer(run_with(body, A_SECOND, SATISFIABLE, tmp_path), UNKNOWN)
 
 
 @pytest.mark.parametrize("body", named([
@@ -231,7 +231,7 @@ def test_an_end_without_an_answer(body: str, tmp_path: Path) -> None:
     ("its children stay", "if os.fork(): os._exit(0)\ntime.sleep(1000)"),
     ("lrupd waits", "os.mkfifo(folder + '/round-1.stream-1')\ncheck()\ntime.sleep(1000)")]))
 def test_no_end(body: str, tmp_path: Path) -> None:
-    assert_answer(run_with(body, ["-q", *SOON], SATISFIABLE, tmp_path), UNKNOWN)
+    assert_answer(run_with(body, ["-q", *A_SECOND], SATISFIABLE, tmp_path), UNKNOWN)
 
 
 @pytest.mark.parametrize("end", named([
@@ -349,7 +349,7 @@ def test_a_formula_that_lrup_model_refuses(text: str, signs: str, tmp_path: Path
 @pytest.mark.parametrize("body", ["sleep 100", "kill -STOP $$"])
 def test_lrup_model_is_late(body: str, tmp_path: Path) -> None:
     """--time ends it, even if it is stopped."""
-    answer = run_with(HAS_MODEL, SOON, SATISFIABLE, tmp_path,
+    answer = run_with(HAS_MODEL, A_SECOND, SATISFIABLE, tmp_path,
                       front=with_model(body, SOLVE, tmp_path))
     assert (answer.out, answer.status) == (UNCHECKED, 0)
 
@@ -450,7 +450,7 @@ def test_lrupd_is_killed_and_requested_again(body: str, text: str, is_piped: boo
 @pytest.mark.parametrize("body", named([
     ("without end", "while True: killed()"), ("once, and it stays", "killed()\ntime.sleep(1000)")]))
 def test_lrupd_is_killed_until_time_is_up(body: str, tmp_path: Path) -> None:
-    assert_answer(run_with(KILLED + body, SOON, SATISFIABLE, tmp_path), UNKNOWN)
+    assert_answer(run_with(KILLED + body, A_SECOND, SATISFIABLE, tmp_path), UNKNOWN)
 
 
 IS_SECOND, SAYS_AND_DIES = "[ $count -gt 1 ]", "echo s UNSATISFIABLE; kill -9 $$"
@@ -752,5 +752,5 @@ signal.signal(signal.SIGTERM, count)
 if os.fork() == 0:
     os.setsid()
 while True: time.sleep(1)"""
-    assert_answer(run_with(body, ["-q", *SOON], SATISFIABLE, tmp_path), UNKNOWN)
+    assert_answer(run_with(body, ["-q", *A_SECOND], SATISFIABLE, tmp_path), UNKNOWN)
     assert 2 <= len(signals.read_text()) <= 8, "signals that two processes got"

@@ -30,7 +30,7 @@ from solving import (EARLY, FRONT, FRONTS_FLAGS, SOLVE, Answer, command, end_all
 # A wrong answer is never tried again.
 pytestmark = [pytest.mark.usefixtures("solve_for_tests"), AGAIN_IF_LATE]
 SIGNALS = COUNT or 60
-SOON = ["-q", "--time", "1"]
+A_SECOND = ["-q", "--time", "1"]
 
 
 @pytest.fixture(scope="module", autouse=True)
@@ -131,7 +131,7 @@ KINDS = {
 
 
 @pytest.fixture(scope="session")
-def refusing_front() -> Path:
+def refusing_front(solve_for_tests: None) -> Path:
     """Wraps the functions that the front calls; none is inlined or replaced by the compiler. One
     worker builds that front."""
     flags = [*FRONTS_FLAGS, "-O0", "-g", "-fno-builtin", "-U_FORTIFY_SOURCE"]
@@ -303,12 +303,12 @@ def run_program(hostile: Program, words: Sequence[object], text: str, work: Path
 
 
 def each_of(text: str) -> pytest.MarkDecorator:
-    return pytest.mark.parametrize("hostile", programs(text), ids=lambda hostile: hostile.name)
+    return pytest.mark.parametrize("hostile", programs(text), ids=lambda one: str(one.name))
 
 
 @each_of(PROGRAMS)
 def test_no_proof_and_no_model(hostile: Program, tmp_path: Path) -> None:
-    answer = run_program(hostile, SOON, SATISFIABLE, tmp_path)
+    answer = run_program(hostile, A_SECOND, SATISFIABLE, tmp_path)
     assert_no_other(answer, UNKNOWN, tmp_path / "formula.cnf")
 
 
@@ -329,7 +329,7 @@ def test_the_front_is_limited(name: str, tmp_path: Path) -> None:
     """The program leaves the front no more files, memory or processes."""
     body = f"resource.prlimit(int(front), resource.{name}, (0, 0)); proves()"
     hostile = Program(name, COMMON + body, False, False)
-    answer = run_program(hostile, SOON, SATISFIABLE, tmp_path)
+    answer = run_program(hostile, A_SECOND, SATISFIABLE, tmp_path)
     assert_no_other(answer, UNKNOWN, tmp_path / "formula.cnf")
 
 
