@@ -1,50 +1,54 @@
 """Refuses each call of lrup-solve's front, sends random signals, and runs hostile programs.
 
 Whatever fails or dies, the answer is right or 's UNKNOWN', or there is a message with status 1, or
-nothing if a signal ended the front. Each run ends, and leaves no process and no file, unless its
-row says otherwise. About 60 (or --count) signals are sent; with 600, each call is also refused in
-each kind of run."""
+nothing if a signal ended the front. Each run ends, and leaves no process and no file, unless a
+program says otherwise. About 60 (or --count) signals are sent; with 600, each call is also refused
+in each kind of run."""
 import contextlib
 import errno
-import functools
 import os
 import random
 import re
 import resource
-import shutil
 import signal
 import subprocess
 import tempfile
 import time
 from pathlib import Path
-from typing import Dict, List, NamedTuple, Sequence, Tuple
+from typing import Dict, Iterator, List, NamedTuple, Sequence, Tuple
 
 import pytest
 
-from harness import (AGAIN_IF_LATE, BUILDS, COUNT, FOUR, LIMIT, MODEL, PROGRAM, ROOT, SUPPORT, Ran,
-                     Row, alone, compiled, dimacs, is_newer, parametrized, random_clauses, run,
-                     started, until, want, written)
-from hostile import PROOF, SATISFIABLE, is_model, run_with
-from hostile_programs import COMMON, PROGRAMS, PROVING, SATISFYING, programs
+from harness import (AGAIN_IF_LATE, BUILDS, COUNT, FOUR, LIMIT, MODEL, ROOT, SUPPORT, Ran, alone,
+                     compiled, dimacs, is_newer, random_clauses, run, started, until, written)
+from hostile import (FOUND, PROOF, PROVED, SATISFIABLE, STATUSES, UNDER, UNKNOWN, is_model, printed,
+                     run_with)
+from hostile_programs import COMMON, PROGRAMS, PROVING, SATISFYING, Program, programs
 from solving import (EARLY, FRONT, FRONTS_FLAGS, SOLVE, Answer, command, end_all, in_environment,
                      marked, of_process, processes_of, processes_of_run, solve, with_model)
 
+# A wrong answer is never tried again.
+pytestmark = [pytest.mark.usefixtures("solve_for_tests"), AGAIN_IF_LATE]
 SIGNALS = COUNT or 60
-UNKNOWN, FOUND, PROVED = "s UNKNOWN", "s SATISFIABLE", "s UNSATISFIABLE"
-UNDER = "s UNSATISFIABLE UNDER ASSUMPTIONS"
-STATUSES = {UNKNOWN: 0, FOUND: 10, PROVED: 20, UNDER: 20}
+A_SECOND = ["-q", "--time", "1"]
 
 
-def want_no_other(answer: Answer, right: str, formula: Path) -> None:
+@pytest.fixture(scope="module", autouse=True)
+def no_cores() -> None:
+    resource.setrlimit(resource.RLIMIT_CORE, (0, 0))
+
+
+def assert_no_other(answer: Answer, right: str, formula: Path) -> None:
     """There is no verdict other than this one, but there may be 's UNKNOWN' at any time, or a
     message that says why there is no answer."""
-    found, has_message = answer.answers, answer.status in (1, 127) and answer.said != ""
-    is_answer, is_killed = found in ([right], [UNKNOWN]), (answer.status or 0) < 0
-    is_whole = is_answer and answer.status == STATUSES[found[0]]
-    is_right = is_whole or found == [] and has_message or (found == [] or is_answer) and is_killed
-    said = f"status {answer.status}, of\n{answer.out[-2000:]}{answer.said[-2000:]}"
-    want(is_right, True, f"whether this is right: {said}")
-    want(answer.status != 10 or is_model(answer, formula), True, f"whether this is a model: {said}")
+    found, is_killed = answer.answers, answer.status < 0
+    assert found in ([], [right], [UNKNOWN]), printed(answer)
+    if found and not is_killed:
+        assert answer.status == STATUSES[found[0]], printed(answer)
+    if not found and not is_killed:
+        assert answer.status in (1, 127) and answer.said != "", printed(answer)
+    if answer.status == 10:
+        assert is_model(answer, formula), printed(answer)
 
 
 # Failing calls of the front.
@@ -126,36 +130,8 @@ KINDS = {
         functions="access close dup2 execv fcntl fork fstat memfd_create open pipe2 read waitpid")}
 
 
-def run_of(kind: Kind, front: Path, work: Path) -> Answer:
-    words = ["--assume", written(kind.assumed, work, "cube")] if kind.assumed else []
-    return run_with(kind.body, words, kind.text, work, front=front, is_packed=kind.is_packed,
-                    given=kind.text if kind.is_piped else None)
-
-
-def refused(function: str, how: str, kind: Kind, work: Path) -> None:
-    """Refuses each call of the function in turn, until a run makes no further call."""
-    front = refusing_front()
-    for number in range(1, MOST + 1):
-        folder = Path(tempfile.mkdtemp(dir=work))       # its name marks the processes
-        given = {"REFUSE": f"{function}:{number}:{getattr(errno, how, how)}",
-                 "MARK": str(folder / "refused")}
-        os.environ.update(given)
-        try:
-            answer = run_of(kind, front, folder)
-        finally:
-            for name in given:
-                del os.environ[name]
-        try:
-            want_no_other(answer, kind.right, folder / "formula.cnf")
-            if not (folder / "refused").exists():
-                said = f"the answer where no call is refused, of\n{answer.out}{answer.said}"
-                return want(answer.answers, [kind.right], said)
-        except AssertionError as found:
-            raise AssertionError(f"call {number}: {found}") from found
-
-
-@functools.lru_cache(maxsize=None)
-def refusing_front() -> Path:
+@pytest.fixture(scope="session")
+def refusing_front(solve_for_tests: None) -> Path:
     """Wraps the functions that the front calls; none is inlined or replaced by the compiler. One
     worker builds that front."""
     flags = [*FRONTS_FLAGS, "-O0", "-g", "-fno-builtin", "-U_FORTIFY_SOURCE"]
@@ -166,20 +142,42 @@ def refusing_front() -> Path:
             objects = [compiled(place / f"{name}.o", [SOURCES / f"{name}.c"], "-c", *flags)
                        for name in ("front", "supervisor")]
             called = set(re.findall(r"\bU (\w+)", run(["nm", "-u", *objects]).out))
-            want(sorted(called - WRAPPED - CANNOT_FAIL), [],
-                 "functions that aren't refused, and may fail")
+            assert called - WRAPPED - CANNOT_FAIL == set(), "they aren't refused, and may fail"
             wraps = [f"-Wl,--wrap={name}" for name in sorted(WRAPPED)]
             compiled(front, [*objects, WRAPPERS], *flags, *wraps)
     return front
 
 
-def refusals() -> List[Row]:
-    """If a function's name depends on the C library, each of its two names has rows; the front
+def refusals() -> Iterator[Tuple[str, str, str]]:
+    """If a function's name depends on the C library, each of its two names is there; the front
     calls one of them."""
-    return [(f"{function}, {how}, {name}", refused, function, how, kind)
-            for function in sorted(WRAPPED) for how in ERRORS.get(function, ("ENOMEM",))
-            for name, kind in KINDS.items()
-            if SIGNALS >= WHOLE or not kind.functions or function in kind.functions.split()]
+    for function in sorted(WRAPPED):
+        for how in ERRORS.get(function, ("ENOMEM",)):
+            for name, kind in KINDS.items():
+                if SIGNALS >= WHOLE or not kind.functions or function in kind.functions.split():
+                    yield function, how, name
+
+
+def run_of(kind: Kind, front: Path, work: Path) -> Answer:
+    words = ["--assume", written(kind.assumed, work, "cube")] if kind.assumed else []
+    return run_with(kind.body, words, kind.text, work, front=front, is_packed=kind.is_packed,
+                    given=kind.text if kind.is_piped else None)
+
+
+@pytest.mark.parametrize("function, how, name", refusals())
+def test_each_call_refused(function: str, how: str, name: str, refusing_front: Path, tmp_path: Path,
+                           monkeypatch: pytest.MonkeyPatch) -> None:
+    """Refuses each call of the function in turn, until a run makes no further call."""
+    for number in range(1, MOST + 1):
+        folder = Path(tempfile.mkdtemp(dir=tmp_path))       # its name marks the processes
+        monkeypatch.setenv("REFUSE", f"{function}:{number}:{getattr(errno, how, how)}")
+        monkeypatch.setenv("MARK", str(folder / "refused"))
+        print(f"call {number}")
+        answer = run_of(KINDS[name], refusing_front, folder)
+        assert_no_other(answer, KINDS[name].right, folder / "formula.cnf")
+        if not (folder / "refused").exists():
+            assert answer.answers == [KINDS[name].right], printed(answer)
+            return
 
 
 # Random signals.
@@ -190,7 +188,7 @@ DEADLY = (signal.SIGHUP, signal.SIGINT, signal.SIGQUIT, signal.SIGABRT, signal.S
           signal.SIGUSR1, signal.SIGALRM, signal.SIGTERM, signal.SIGPIPE, signal.SIGSEGV,
           signal.SIGXCPU, signal.SIGKILL)
 SOON = 20       # seconds within which everything ends once the front is killed
-A_ROW = 6       # signals per row
+A_TEST = 6      # signals per test
 
 
 def sent(numbers: random.Random, pid: int) -> Tuple[str, str]:
@@ -257,7 +255,7 @@ def signalled(numbers: random.Random, most: int, given: Given, work: Path) -> in
             is_killed = running.returncode == -signal.SIGKILL
             until("all processes end", lambda: are_gone(mark, is_killed), SOON)
             answer = Answer(Ran(*running.communicate(timeout=LIMIT), running.returncode))
-            want_no_other(answer, given.right, given.formula)
+            assert_no_other(answer, given.right, given.formula)
             if not may_leave_files(history):
                 until("its files are removed", lambda: not os.listdir(files), SOON)
         except AssertionError as found:
@@ -269,7 +267,8 @@ def signalled(numbers: random.Random, most: int, given: Given, work: Path) -> in
     return len(history)
 
 
-def signals(seed: int, count: int, work: Path) -> None:
+@pytest.mark.parametrize("seed", range(SIGNALS // A_TEST))
+def test_signals(seed: int, tmp_path: Path) -> None:
     """Sends signals to runs on one formula: satisfiable, unsatisfiable, or unsatisfiable only under
     assumptions."""
     numbers, words = random.Random(f"{seed} signals"), ["-j", "2", "--memory", "64M"]
@@ -277,15 +276,15 @@ def signals(seed: int, count: int, work: Path) -> None:
     clauses = random_clauses(numbers, size, round(numbers.uniform(4, 4.6) * size))
     if is_assumed:
         clauses = [[*clause, size + 1] for clause in clauses]
-        words += ["--assume", str(written(f"-{size + 1} 0\n", work, "cube"))]
-    formula, begun = written(dimacs(size + is_assumed, clauses), work), time.monotonic()
+        words += ["--assume", str(written(f"-{size + 1} 0\n", tmp_path, "cube"))]
+    formula, begun = written(dimacs(size + is_assumed, clauses), tmp_path), time.monotonic()
     whole = solve([*words, formula], tested={"SET": EARLY, "SLICE": 50})
-    solved = [FOUND], [UNDER if is_assumed else PROVED]
-    want(whole.answers in solved, True, "whether it is solved")
+    assert whole.answers in ([FOUND], [UNDER if is_assumed else PROVED])
     given = Given(words, formula, whole.answers[0], time.monotonic() - begun)
+    left = A_TEST
     for _ in range(4):
-        if count > 0:
-            count -= signalled(numbers, count, given, Path(tempfile.mkdtemp(dir=work)))
+        if left > 0:
+            left -= signalled(numbers, left, given, Path(tempfile.mkdtemp(dir=tmp_path)))
 
 
 # More hostile programs.
@@ -294,47 +293,53 @@ LIMITS = ("RLIMIT_NOFILE", "RLIMIT_AS", "RLIMIT_FSIZE", "RLIMIT_DATA", "RLIMIT_N
 SLOW = f'sleep 0.5\nexec {MODEL} "$@"'
 
 
-def no_other(name: str, body: str, words: Sequence[str], text: str, right: str, work: Path) -> None:
-    """lrup-solve doesn't crash, and gives no answer other than the right one."""
-    cube, lrupd, front = written("2 0\n", work, "cube"), Path(PROGRAM), SOLVE
-    if name.endswith(", slow"):
-        front = with_model(SLOW, SOLVE, work)
-    if name.endswith(", copied"):
-        lrupd = Path(shutil.copy(PROGRAM, work / "lrupd"))
-    leaves = name.endswith(", leaves")
-    answer = run_with(body, [word.format(cube=cube) for word in words], text, work, lrupd, front,
-                      may_leave=leaves, stderr=subprocess.DEVNULL if leaves else subprocess.PIPE)
-    want("Traceback" in answer.said, False, f"whether it crashes:\n{answer.said}")
-    want_no_other(answer, right, work / "formula.cnf")
+def run_program(hostile: Program, words: Sequence[object], text: str, work: Path) -> Answer:
+    """Runs the front with this program, which mustn't crash."""
+    front = with_model(SLOW, SOLVE, work) if hostile.is_slow else SOLVE
+    answer = run_with(hostile.body, words, text, work, front=front, may_leave=hostile.may_leave,
+                      stderr=subprocess.DEVNULL if hostile.may_leave else subprocess.PIPE)
+    assert "Traceback" not in answer.said
+    return answer
 
 
-def hostile() -> List[Row]:
-    lasting = ["-q", "--time", "1"]
-    unknown: List[Tuple[str, str, Sequence[str]]]
-    unknown = [(name, body, lasting) for name, body in programs(PROGRAMS)]
-    limits = "resource.prlimit(int(front), resource.{}, (0, 0)); proves()"
-    unknown += [(f"the front has no {name}", COMMON + limits.format(name), lasting)
-                for name in LIMITS]
-    unknown += [(f"{number.name}, and {line}", COMMON + f"waits(); forge({line!r}); "
-                 f"os.kill(pid, {number}); ends({line!r})", words)
-                for number in (signal.SIGFPE, signal.SIGQUIT, signal.SIGABRT, signal.SIGTERM)
-                for line, words in ((PROVED, ()), (UNDER, ("--assume", "{cube}")))]
-    listed = [(*row, SATISFIABLE, UNKNOWN) for row in unknown]
-    listed += [(name, body, ["--time", "3"], FOUR, PROVED) for name, body in programs(PROVING)]
-    listed += [(name, body, [], SATISFIABLE, FOUND) for name, body in programs(SATISFYING)]
-    return [(row[0], no_other, *row) for row in listed]
+def each_of(text: str) -> pytest.MarkDecorator:
+    return pytest.mark.parametrize("hostile", programs(text), ids=lambda one: str(one.name))
 
 
-def rows() -> List[Row]:
-    """Rows that wait long come first."""
-    random_ones = [(f"signals {seed}", signals, seed, A_ROW) for seed in range(SIGNALS // A_ROW)]
-    return [*hostile(), *random_ones, *refusals()]
+@each_of(PROGRAMS)
+def test_no_proof_and_no_model(hostile: Program, tmp_path: Path) -> None:
+    answer = run_program(hostile, A_SECOND, SATISFIABLE, tmp_path)
+    assert_no_other(answer, UNKNOWN, tmp_path / "formula.cnf")
 
 
-@pytest.fixture(scope="module", autouse=True)
-def no_cores() -> None:
-    resource.setrlimit(resource.RLIMIT_CORE, (0, 0))
+@each_of(PROVING)
+def test_a_proof(hostile: Program, tmp_path: Path) -> None:
+    answer = run_program(hostile, ["--time", "3"], FOUR, tmp_path)
+    assert_no_other(answer, PROVED, tmp_path / "formula.cnf")
 
 
-pytestmark = [pytest.mark.usefixtures("solve_for_tests"), AGAIN_IF_LATE]
-test_row = parametrized(rows())
+@each_of(SATISFYING)
+def test_a_model(hostile: Program, tmp_path: Path) -> None:
+    answer = run_program(hostile, [], SATISFIABLE, tmp_path)
+    assert_no_other(answer, FOUND, tmp_path / "formula.cnf")
+
+
+@pytest.mark.parametrize("name", LIMITS)
+def test_the_front_is_limited(name: str, tmp_path: Path) -> None:
+    """The program leaves the front no more files, memory or processes."""
+    body = f"resource.prlimit(int(front), resource.{name}, (0, 0)); proves()"
+    hostile = Program(name, COMMON + body, False, False)
+    answer = run_program(hostile, A_SECOND, SATISFIABLE, tmp_path)
+    assert_no_other(answer, UNKNOWN, tmp_path / "formula.cnf")
+
+
+@pytest.mark.parametrize("line", [PROVED, UNDER])
+@pytest.mark.parametrize("number", [signal.SIGFPE, signal.SIGQUIT, signal.SIGABRT, signal.SIGTERM])
+def test_lrupd_is_killed_and_a_line_forged(number: signal.Signals, line: str,
+                                           tmp_path: Path) -> None:
+    """SIGFPE has the number of lrupd's status under assumptions."""
+    assume = ["--assume", written("2 0\n", tmp_path, "cube")] if line == UNDER else []
+    body = f"waits(); forge({line!r}); os.kill(pid, {int(number)}); ends({line!r})"
+    hostile = Program(line, COMMON + body, False, False)
+    answer = run_program(hostile, assume, SATISFIABLE, tmp_path)
+    assert_no_other(answer, UNKNOWN, tmp_path / "formula.cnf")

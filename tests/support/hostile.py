@@ -10,10 +10,13 @@ import time
 from pathlib import Path
 from typing import Optional, Sequence
 
-from harness import PROGRAM, run, want, written
+from harness import PROGRAM, run, written
 from proof_forms import read_formula
 from solving import SOLVE, Answer, end_all, marked, none_left
 
+UNKNOWN, FOUND, PROVED = "s UNKNOWN", "s SATISFIABLE", "s UNSATISFIABLE"
+UNDER = "s UNSATISFIABLE UNDER ASSUMPTIONS"
+STATUSES = {UNKNOWN: 0, FOUND: 10, PROVED: 20, UNDER: 20}
 # Satisfied by 1 2 3 and by 1 2 -3.
 SATISFIABLE = "p cnf 3 4\nc a comment\n1 2 0\n-1\n2 0 1 -3 0\nc 3 0\n3 -2 1 0\n"
 LONG = 30       # seconds after which a run should have ended
@@ -148,13 +151,22 @@ def run_with(body: str, words: Sequence[object], text: str, work: Path, lrupd: o
     if may_leave:
         end_all(mark)
     none_left(mark)
-    want(os.listdir(files), [], "files that it makes")
-    strange = [line for line in answer.out.splitlines() if line[:2] not in ("c ", "s ", "v ")]
-    want((strange, len(answer.answers) < 2), ([], True),
-         f"lines of another kind in\n{answer.out[-2000:]}")
+    assert os.listdir(files) == []
+    assert [line for line in answer.out.splitlines() if line[:2] not in ("c ", "s ", "v ")] == []
+    assert len(answer.answers) < 2
     if time.monotonic() - begun > LONG:
         raise subprocess.TimeoutExpired("the run", LONG)
     return answer
+
+
+def printed(answer: Answer) -> str:
+    """The end of both outputs, for messages: some programs print without end."""
+    return f"status {answer.status}, of\n{answer.out[-2000:]}{answer.said[-2000:]}"
+
+
+def assert_answer(answer: Answer, line: str) -> None:
+    """This line is the only answer, and the status says the same."""
+    assert (answer.answers, answer.status) == ([line], STATUSES[line]), printed(answer)
 
 
 def is_model(answer: Answer, formula: Path, assumed: Sequence[int] = ()) -> bool:

@@ -1,10 +1,9 @@
 """Harmful programs in place of lrup-engines, for test_lrup_solve_hostile.py.
 
-Each program is a comment with its name, and a body. A name may end with a word: `slow` if
-lrup-model takes a moment, `copied` if lrupd is a copy, and `leaves` if processes may be left, since
-the supervisor is killed."""
+Each program is a comment with its name, and a body. After the name there may be `slow` or
+`leaves`."""
 import re
-from typing import List, Tuple
+from typing import List, NamedTuple
 
 from hostile import AGAIN, PROOF
 
@@ -187,7 +186,15 @@ os.truncate(OUTPUT, 1 << 40); proves()
 """
 
 
-def programs(text: str) -> List[Tuple[str, str]]:
-    """The names and bodies of the programs in a text."""
-    found = re.findall(r"^# (.*)\n((?:[^#].*\n)+)", text, re.M)
-    return [(name, COMMON + body) for name, body in found]
+class Program(NamedTuple):
+    """A program in place of lrup-engines."""
+    name: str
+    body: str
+    is_slow: bool       # lrup-model has to take a moment
+    may_leave: bool     # processes, since it kills the supervisor
+
+
+def programs(text: str) -> List[Program]:
+    found = re.findall(r"^# (.*?)(, slow)?(, leaves)?\n((?:[^#].*\n)+)", text, re.M)
+    return [Program(name, COMMON + body, bool(slow), bool(leaves))
+            for name, slow, leaves, body in found]
