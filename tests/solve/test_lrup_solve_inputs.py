@@ -758,6 +758,10 @@ def test_lrup_solve_refuses_standard_input(refused: Refused) -> None:
 SPACED = "more than single spaces between its literals"
 
 
+def beyond(literal: object) -> str:
+    return f"the literal {literal}, but the formula has the variables 1 to 2"
+
+
 @pytest.mark.parametrize("formula", ["formula.cnf", "-"])
 @pytest.mark.parametrize("literals, fault, known", [
     ("-2 x 0\n", "spelling", "not a number: x"), ("1  2 0\n", "spelling", SPACED),
@@ -765,10 +769,10 @@ SPACED = "more than single spaces between its literals"
     ("1 2 0\r\n", "spelling", "it has a CR, but lines must end with LF only"),
     ("1 2 0", "spelling", "no LF at its end"), ("1 0\n2 0\n", "spelling", "a second line"),
     ("1 2\n", "spelling", "no line of literals that ends with 0"),
-    *((f"{literal} 0\n", "variable out of range",
-       f"the literal {shown}, but the formula has the variables 1 to 2") for literal, shown in (
-        ("-7", "-7"), (f"-{1 << 63}", f"-{1 << 63}"), (f"-{(1 << 64) + 1}", f"-{(1 << 64) + 1}"),
-        ("1" * 100, "1" * 21 + "..")))])
+    ("-7 0\n", "variable out of range", beyond(-7)),
+    (f"{-(1 << 63)} 0\n", "too long", beyond(-(1 << 63))),
+    (f"{-(1 << 64) - 1} 0\n", "too long", beyond(-(1 << 64) - 1)),
+    pytest.param("1" * 100 + " 0\n", "too long", beyond("1" * 21 + ".."), id="100 digits")])
 def test_assumptions_that_are_refused(literals: str, fault: str, known: str, formula: str,
                                       tmp_path: Path) -> None:
     written(FOUR, tmp_path)
