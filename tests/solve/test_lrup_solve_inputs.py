@@ -19,8 +19,7 @@ from harness import (COMPRESSED, FILTER, FOUR, LIMIT, MODEL, PROGRAM, SMALL_ROW,
 from lrat import lrat_fault
 from proof_forms import read_formula
 from solving import (SOLVE, Answer, before_lrupd, check_again, children_of, command,
-                     in_environment, in_place_of_lrupd, listed, marked, none_left, solve,
-                     want_answer)
+                     in_environment, in_place_of_lrupd, listed, none_left, solve, want_answer)
 
 pytestmark = pytest.mark.usefixtures("solve_for_tests")
 Text = Union[str, bytes]
@@ -332,11 +331,11 @@ def test_links_in_a_record(kept: Path, tmp_path: Path) -> None:
 
 @pytest.mark.parametrize("name, ends", named([
     ("Terminated", "kept", signal.SIGTERM), ("Killed, named by a link", "link", signal.SIGKILL)]))
-def test_the_folder_of_another_run(name: str, ends: signal.Signals, kept: Path,
+def test_the_folder_of_another_run(name: str, ends: signal.Signals, kept: Path, mark: str,
                                    tmp_path: Path) -> None:
     """A run locks its folder until it ends, however it ends. A second run is refused at once, and
     touches nothing."""
-    mark, words = marked(tmp_path), ["-j", "1", "--proofs", tmp_path / name, example("bmc.cnf")]
+    words = ["-j", "1", "--proofs", tmp_path / name, example("bmc.cnf")]
     (tmp_path / "link").symlink_to("kept")
     with started(command(["-j", "1", "--proofs", kept, generated("pigeons 11", tmp_path)]),
                  stdout=subprocess.DEVNULL) as running:

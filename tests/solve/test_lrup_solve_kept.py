@@ -24,7 +24,7 @@ from lrat import lrat_fault
 from proof_forms import Clause, read_formula
 from records import only_with
 from solving import (MODELS, SOLVE, Answer, before_lrupd, check_again, command, in_environment,
-                     in_place_of_lrupd, marked, none_left, solve, want_answer)
+                     in_place_of_lrupd, none_left, solve, want_answer)
 
 pytestmark = pytest.mark.usefixtures("solve_for_tests")
 PROVED, PROVED_UNDER = "s UNSATISFIABLE", "s UNSATISFIABLE UNDER ASSUMPTIONS"
@@ -47,12 +47,6 @@ def temporary(tmp_path: Path) -> Path:
 
 def with_temporary(folder: Path) -> Dict[str, str]:
     return {**os.environ, "TMPDIR": str(folder)}
-
-
-@pytest.fixture
-def mark(tmp_path: Path) -> str:
-    """Marks all processes of the test."""
-    return marked(tmp_path)
 
 
 def digest(path: Path) -> str:
@@ -252,23 +246,24 @@ def test_no_lrup_trim(tmp_path: Path) -> None:
 # Where a record and its formula are.
 
 
+def number_of_rounds(record: Path) -> int:
+    return len(list(record.glob("round-*.sizes")))
+
+
 def record_of(formula: Path, *options: object, tested: Hooks = None,
               is_piped: bool = False) -> Path:
-    """The record of a run that refutes the formula. It is in the folder d, beside the formula."""
-    words = [*options, "--proofs", "d", *([] if is_piped else [formula])]
-    answer = solve(words, tested=tested, cwd=formula.parent,
-                   given=formula.read_text() if is_piped else None)
-    assert answer.status == 20, answer.out + answer.said
-    return formula.parent / "d"
+    """The record of a run that refutes the formula, with hooks in several rounds. It is in the
+    folder d, beside the formula."""
+    record, words = formula.parent / "d", [*options, "--proofs", "d"]
+    want_answer(solve([*words, *([] if is_piped else [formula])], tested=tested,
+                      cwd=formula.parent, given=formula.read_text() if is_piped else None), 20)
+    assert (number_of_rounds(record) > 1) == bool(tested)
+    return record
 
 
 @pytest.fixture
 def record(formula: Path) -> Path:
     return record_of(formula, "-j", 1)
-
-
-def number_of_rounds(record: Path) -> int:
-    return len(list(record.glob("round-*.sizes")))
 
 
 def check(record: Path, *words: object, **how: Any) -> Ran:
@@ -326,7 +321,6 @@ def test_a_moved_record(words: str, is_piped: bool, tested: Hooks, tmp_path: Pat
     """A record's names are relative to its folder, so the record can be checked anywhere, from any
     folder, even by just the name of its script."""
     record = move(record_of(generated(words, tmp_path), "-j", 2, tested=tested, is_piped=is_piped))
-    assert (number_of_rounds(record) > 1) == bool(tested)
     check_again(record)
     done = run(["sh", "command"], cwd=record, env={**os.environ, "CDPATH": str(tmp_path)})
     assert done.out.splitlines()[-1] == PROVED
@@ -454,27 +448,33 @@ def move_project(project: Path) -> Path:
 
 def test_a_record_that_has_moved_with_its_formula(project: Path) -> None:
     """Paths relative to the record come first."""
-    assert solve(["-j", 1, "--proofs", "records/d", "f.cnf"], cwd=project).status == 20
+    want_answer(solve(["-j", 1, "--proofs", "records/d", "f.cnf"], cwd=project), 20)
     moved = move_project(project)
     want_proved(run(["sh", moved / "records" / "d" / "command"], cwd="/"), moved / "f.cnf")
 
 
-def test_a_record_that_has_moved_with_its_assumptions(project: Path) -> None:
-    """Then come other assumptions."""
+def move_assuming(project: Path) -> Path:
+    """Keeps a record under assumptions, and moves everything."""
     words = ["-j", 1, "--proofs", "records/d", "--assume", "cubes/cube", "f.cnf"]
-    assert solve(words, cwd=project).status == 20
-    moved = move_project(project)
-    cube, command = moved / "cubes" / "cube", moved / "records" / "d" / "command"
-    done = run(["sh", command], cwd="/")
+    want_answer(solve(words, cwd=project), 20, verdict=PROVED_UNDER)
+    return move_project(project)
+
+
+def test_a_record_that_has_moved_with_its_assumptions(project: Path) -> None:
+    moved = move_assuming(project)
+    done = run(["sh", moved / "records" / "d" / "command"], cwd="/")
     assert (done.err, done.status) == ("", 8)
-    assert done.out.splitlines()[:2] == [first_line(moved / "f.cnf"),
-                                         first_line(cube).replace("formula", "assumptions")]
-    assert done.out.splitlines()[-1] == PROVED_UNDER
-    cube.write_text("-1 0\n")
-    done = run(["sh", command])
-    assert done.err == refused(
-        f"{cube} isn't the assumptions of this record, or was changed since").err
-    assert done.status == 1
+    formula, cube, *_, verdict = done.out.splitlines()
+    assert formula == first_line(moved / "f.cnf")
+    assert cube == f"c assumptions {moved}/cubes/cube, SHA-256 {digest(moved / 'cubes' / 'cube')}"
+    assert verdict == PROVED_UNDER
+
+
+def test_other_assumptions(project: Path) -> None:
+    moved = move_assuming(project)
+    cube = written("-1 0\n", moved / "cubes", "cube")
+    said = f"{cube} isn't the assumptions of this record, or was changed since"
+    assert run(["sh", moved / "records" / "d" / "command"]) == refused(said)
 
 
 @pytest.mark.parametrize("tool", ["sha256sum", "shasum", "openssl"])
@@ -584,9 +584,7 @@ def test_the_fields_of_about(engines: int, is_piped: bool, tested: Hooks, tmp_pa
     version = (ROOT / "VERSION").read_text().strip()
     assert fields["programs"].startswith(f"lrupd {version}; lrup-solve {version}, with CaDiCaL ")
     assert f"`{fields['kit']}`" in (ROOT / "README.md").read_text()
-    rounds = number_of_rounds(tmp_path / "d")
-    assert (rounds > 1) == bool(tested)
-    assert fields["record"].split(" round")[0] == str(rounds)
+    assert fields["record"].split(" round")[0] == str(number_of_rounds(tmp_path / "d"))
 
 
 @each_about
@@ -727,8 +725,11 @@ def interrupt(number: signal.Signals, record: Path, temporary: Path) -> None:
     assert os.listdir(temporary) == []
 
 
-@pytest.mark.parametrize("number", [signal.SIGTERM, signal.SIGINT, signal.SIGHUP],
-                         ids=lambda number: str(number.name))
+def each_signal(*numbers: signal.Signals) -> pytest.MarkDecorator:
+    return pytest.mark.parametrize("number", numbers, ids=lambda number: str(number.name))
+
+
+@each_signal(signal.SIGTERM, signal.SIGINT, signal.SIGHUP)
 def test_a_check_that_gets_a_signal(number: signal.Signals, hanging: Path, mark: str,
                                     temporary: Path, tmp_path: Path) -> None:
     """It ends with its lrupd, and can be repeated."""
@@ -738,8 +739,7 @@ def test_a_check_that_gets_a_signal(number: signal.Signals, hanging: Path, mark:
     check_again(hanging, {"TMPDIR": str(temporary)})
 
 
-@pytest.mark.parametrize("number", [signal.SIGTERM, signal.SIGINT],
-                         ids=lambda number: str(number.name))
+@each_signal(signal.SIGTERM, signal.SIGINT)
 def test_a_signal_while_streams_are_unpacked(number: signal.Signals, hanging: Path, mark: str,
                                              temporary: Path) -> None:
     """The unpacking programs end, too, even if lrupd hasn't opened their pipes yet."""
@@ -798,13 +798,13 @@ def test_no_shell_runs_a_part_of_a_name(names: Tuple[str, str], assumes: bool, t
     mark, programs = tmp_path / "mark", tmp_path / "programs"
     written("#!/bin/sh\n: > \"$MARK\"\n", programs, "ran").chmod(0o755)
     more = {"MARK": str(mark), "PATH": f"{programs}:{os.environ['PATH']}"}
-    folder = tmp_path / names[0].replace("/", "")
+    folder = tmp_path / names[0]
     formula = written(example("bmc.cnf").read_text(), folder, names[0])
     cube = written("0\n", folder, names[1])
-    words = (["--assume", f"./{cube.name}"] if assumes
-             else ["--solver", "cadical -q %formula %proof"])
     if not assumes:
         needs("cadical")
+    words = (["--assume", f"./{cube.name}"] if assumes
+             else ["--solver", "cadical -q %formula %proof"])
     answer = solve(["-v", "-j", 2, "--proofs", "kept", *words, "--", formula.name], tested=tested,
                    env_more=more, cwd=folder)
     want_answer(answer, 20)
@@ -835,7 +835,8 @@ def test_strange_names_of_outputs(core: str, lrat: str, name: str, assumes: bool
     """Correct outputs are kept, whatever names they and the formula have. lrupd accepts the LRAT
     text by the printed command."""
     formula = written(generated("pigeons 5", tmp_path).read_bytes(), tmp_path, name)
-    cube, verdict = written("1 0\n", tmp_path, "cube"), PROVED_UNDER if assumes else PROVED
+    cube = written("1 0\n", tmp_path, f"cube of {name}")
+    verdict = PROVED_UNDER if assumes else PROVED
     answer = keep_outputs(["-j", 1, *["--assume", cube.name] * assumes, "--", name], formula,
                           verdict=verdict, names=(core, lrat))
     printed = [re.search(r": \d+ bytes of \d+: (lrupd .*)", line) for line in answer.comments

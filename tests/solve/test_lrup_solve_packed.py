@@ -21,8 +21,8 @@ from harness import (EXPLAIN, LIMIT, LRUP_RECHECK, PROGRAM, Ran, generated, need
                      started, until, written)
 from records import (checkpoints, killed_once, only_with, recorded, saved_rounds, way_on,
                      whole)
-from solving import (Answer, children_of, command, in_environment, is_alive, listed, marked,
-                     none_left, solve, want_answer)
+from solving import (Answer, children_of, command, in_environment, is_alive, listed, none_left,
+                     solve, want_answer)
 
 pytestmark = pytest.mark.usefixtures("solve_for_tests", "zstd")
 SMALL = {"SAME_WORDS": 1, "SLICE": 20, "FIRST_WORDS": 4000, "PACKED_FROM": 1}
@@ -40,12 +40,6 @@ def zstd() -> None:
 @pytest.fixture
 def formula(tmp_path: Path) -> Path:
     return generated("pigeons 7", tmp_path)
-
-
-@pytest.fixture
-def mark(tmp_path: Path) -> str:
-    """Marks all processes of the test."""
-    return marked(tmp_path)
 
 
 @pytest.fixture
