@@ -152,7 +152,8 @@ def run_with(body: str, words: Sequence[object], text: str, work: Path, lrupd: o
         end_all(mark)
     none_left(mark)
     assert os.listdir(files) == []
-    assert [line for line in answer.out.splitlines() if line[:2] not in ("c ", "s ", "v ")] == []
+    strange = [line for line in answer.out.splitlines() if line[:2] not in ("c ", "s ", "v ")]
+    assert strange == []
     assert len(answer.answers) < 2
     if time.monotonic() - begun > LONG:
         raise subprocess.TimeoutExpired("the run", LONG)
