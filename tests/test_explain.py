@@ -2,10 +2,10 @@
 
 There are faulty runs of one to five solvers: hints are left out, doubled and reordered, literals
 get wrong signs, deletions and imports are inserted, or bytes are garbled. Then come mutants of
-test_filter_mutants.py, most of which don't have a stream's form. For each stream, the fault and its
-line have to be those that lrupd --serial reports; if no stream deletes what others cite, lrupd has
-to report the same faults with threads, too. Each chain that is offered has to be right: lrupd
-accepts the line with this chain as its hints. If only hints are wrong, a chain has to be offered.
+proofs in other forms. For each stream, the fault and its line have to be those that lrupd --serial
+reports; if no stream deletes what others cite, lrupd has to report the same faults with threads,
+too. Each chain that is offered has to be right: lrupd accepts the line with this chain as its
+hints. If only hints are wrong, a chain has to be offered.
 lrup-explain also has to end while streams are rewritten and truncated. It is built for tests, with
 -fsanitize=address,undefined if the compiler supports it; three of four runs on faulty streams use
 the normal build."""
@@ -24,8 +24,8 @@ import pytest
 from faulty import garbled_text, refuted
 from harness import (COMPRESSED, EXAMPLES, EXPLAIN, FOUR, ROOT, SANITIZING, Ran, compiler,
                      enough_for, example, generated, named, piped, run, sanitized_explain, written)
+from mutations import Mutant
 from rewriting import cut_while_read, withstands
-from test_filter_mutants import Mutant, proofs
 
 PAGE = ROOT / "man" / "lrup-explain.1"
 FOUR_SOLVERS = [f"bmc-four.{number}" for number in range(1, 5)]
@@ -330,8 +330,8 @@ def test_threads(program: str, seed: int, tmp_path: Path) -> None:
 
 @pytest.mark.seeds(1000)
 def test_mutants(program: str, seed: int, tmp_path: Path) -> None:
-    """The proof of a mutant of test_filter_mutants.py, as a stream."""
-    found = Mutant(seed, proofs(), tmp_path)
+    """A mutant of a proof in another form is given as a stream."""
+    found = Mutant(seed, tmp_path)
     stream = written(found.proof, tmp_path, "stream")
     names = [stream if place == found.stream else "/dev/null"
              for place in range(1, found.streams + 1)]

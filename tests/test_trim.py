@@ -23,11 +23,12 @@ from typing import Callable, Dict, List, NamedTuple, Optional, Sequence, Tuple
 import pytest
 
 from harness import (COMPRESSED, EXAMPLES, FILTER, FOUR, GENERATOR, ROOT, SANITIZE, SANITIZING,
-                     SUPPORT, TRIM, VERDICTS, Ran, compiled, dimacs, example, generated, lacking,
-                     named, piped, random_clauses, run, sanitized_trim, sanitizer, within, written)
+                     TRIM, VERDICTS, Ran, dimacs, example, generated, lacking, named, piped,
+                     random_clauses, run, sanitized_trim, sanitizer, within, written)
 from faulty import garbled_text, refuted, solved
 from lrat import lrat_fault
 from proof_forms import Clause, Step, read_formula, read_steps
+from refused import refusing
 from rewriting import cut_while_read, withstands
 from rounds import ONE, TWO, Proof, round_files
 from solving import solve
@@ -583,13 +584,11 @@ def test_files_that_are_rewritten(seed: int, tmp_path: Path) -> None:
 @pytest.mark.parametrize("output", ["--core", "--lrat"])
 def test_a_signal_leaves_no_file(output: str, tmp_path: Path) -> None:
     """It comes once a file is created."""
-    shim = compiled(tmp_path / "refuse.so", [SUPPORT / "refuse.c"], "-std=gnu11", "-O2", "-shared",
-                    "-fPIC")
     done = run([TRIM, output, "made", example("bmc.cnf"), example("bmc.lrup")], cwd=tmp_path,
-               env={**os.environ, "LD_PRELOAD": str(shim), "REFUSE": "create:1:SIGTERM",
+               env={**os.environ, "LD_PRELOAD": str(refusing()), "REFUSE": "create:1:SIGTERM",
                     "MARK": str(tmp_path / "mark")})
     assert done.status == -signal.SIGTERM, done.err
-    assert sorted(os.listdir(tmp_path)) == ["mark", "refuse.so"]
+    assert os.listdir(tmp_path) == ["mark"]
 
 
 @pytest.mark.parametrize("place, cause", [

@@ -1,13 +1,13 @@
-"""Runs lrup-check on proofs of several forms, and on faulty ones.
+"""lrup-check on right and wrong proofs of several forms, its options, and how it ends.
 
-Proofs are written by CaDiCaL, CryptoMiniSat and PicoSAT, if they are on the PATH, by the example
-solver, and by hand; they come from a file, a pipe and standard input, alone and in parallel, in one
-round and in many. A step that doesn't follow gives no verdict, and its line and clause are
-named."""
+Proofs are written by CaDiCaL, CryptoMiniSat and PicoSAT, by the example solver, and by hand. They
+come from files, pipes and standard input, alone and several at once, in one round and in many. A
+step that doesn't follow gives no verdict, and its line and clause are named."""
 import fcntl
 import os
 import pty
 import random
+import shlex
 import shutil
 import signal
 import subprocess
@@ -15,392 +15,419 @@ import termios
 import threading
 import time
 from pathlib import Path
-from typing import List, Sequence
+from typing import List, NamedTuple
 
-from harness import (EXAMPLES, FOUR, PROGRAM, ROOT, Ran, Row, dimacs, example, feed, generated,
-                     needs, parametrized, piped, run, started, until, want, written)
+import pytest
+
+from harness import (FOUR, PROGRAM, ROOT, VERDICTS, Ran, example, feed, generated, named, needs,
+                     piped, run, started, until, written)
 from lrat import lrat_fault
 from proof_forms import read_formula
-from solving import (FOR_TESTS, SOLVE, Answer, check, check_again, marked, none_left,
-                     processes_of)
+from solving import SOLVE, Answer, check, check_again, marked, none_left, processes_of
 
-BMC = ["bmc-four.1", "bmc-four.2", "bmc-four.3", "bmc-four.4"]
-MANY_ROUNDS = {"FIRST_WORDS": 4000, "SAME_WORDS": 1}
+pytestmark = pytest.mark.usefixtures("lrup_solve")
+CHECK = SOLVE.with_name("lrup-check")
 FIRST = "p cnf 2 1\n1 2 0\n"
-UNREADABLE = "/proc/self/mem: it can't be read: Input/output error"
-XOR = dimacs(2, [[1, 2], [-1, 2], [1, -2], [-1, -2]])
-GOOD, SHORT = "1 0\n", "1 2 0\n"       # proofs of this formula; the second one ends early
+PROOF = "2 0\n0\n"                      # of FOUR
+SHORT = "1 2 0\n"                       # a step that follows from FOUR, which leaves it open
+EARLY_END = "the proof ends without the empty clause"
 
 
-def want_proved(answer: Answer, verdict: str = "s UNSATISFIABLE", status: int = 0) -> None:
-    want((answer.answers, answer.status, answer.said), ([verdict], status, ""),
-         f"the answer of\n{answer.out[-2000:]}")
+def want_proved(answer: Answer, verdict: str = VERDICTS[0], status: int = 0) -> None:
+    assert answer.answers == [verdict], answer.out
+    assert (answer.status, answer.said) == (status, "")
 
 
-def want_none(answer: Answer, cause: str) -> None:
-    want((answer.answers, answer.status, answer.said), (["s UNKNOWN"], 3, ""),
-         f"the answer of\n{answer.out[-2000:]}")
-    want(answer.comments[:1], [cause], f"the first comment of\n{answer.out[-2000:]}")
+def want_unknown(answer: Answer, cause: str) -> None:
+    """There is no verdict, and the first comment says why."""
+    assert answer.answers == ["s UNKNOWN"], answer.out
+    assert (answer.status, answer.said) == (3, "")
+    assert answer.comments[0] == cause
+
+
+def check_texts(formula: str, proof: str, work: Path) -> Answer:
+    """The answer on files with these texts."""
+    return check([written(formula, work), written(proof, work, "proof")])
+
+
+# Proofs by solvers.
+
+
+CADICAL, CADICAL_TEXT = "cadical -q formula proof", "cadical -q --no-binary formula proof"
+PICOSAT = "picosat formula -R proof"
+SOLVERS = [CADICAL, CADICAL_TEXT, "cryptominisat5 --verb 0 formula proof", PICOSAT]
 
 
 def proof_by(command: str, formula: Path, work: Path) -> Path:
-    """A solver's proof; `proof` in its command is the proof's file."""
-    words, proof = command.split(), work / "proof"
+    """A solver's proof. In the command, `formula` and `proof` stand for the files."""
+    words, files = command.split(), {"formula": formula, "proof": work / "proof"}
     needs(words[0])
-    done = run([str(formula) if word == "formula" else str(proof) if word == "proof" else word
-                for word in words])
-    want(done.status, 20, f"the status of {command}")
-    return proof
+    assert run([files.get(word, word) for word in words]).status == 20
+    return files["proof"]
 
 
-# Right proofs.
+class Solved(NamedTuple):
+    """A formula, and CaDiCaL's proof."""
+    formula: Path
+    proof: Path
 
 
-def of_solver(command: str, name: str, how: str, work: Path) -> None:
-    formula = example(name) if name.endswith(".cnf") else generated(name, work)
-    proof = proof_by(command, formula, work)
-    if how == "file":
-        return want_proved(check([formula, proof]))
-    if how == "standard input":
-        with proof.open("rb") as file:
-            return want_proved(check([formula, "-"], stdin=file))
-    if how == "formula from standard input":
-        with formula.open("rb") as file:
-            return want_proved(check(["-", proof], stdin=file))
-    pipe = piped(work / "pipe")
-    feed(pipe, [proof.read_bytes()])
-    want_proved(check([formula, pipe]))
+@pytest.fixture
+def solved(tmp_path: Path) -> Solved:
+    formula = generated("random 150 1", tmp_path)
+    return Solved(formula, proof_by(CADICAL, formula, tmp_path))
 
 
-def in_rounds(work: Path) -> None:
-    formula = generated("random 150 1", work)
-    proof, kept = proof_by("cadical -q formula proof", formula, work), work / "kept"
-    answer = check(["-v", "--proofs", kept, formula, proof], tested=MANY_ROUNDS)
+@pytest.mark.parametrize("command", SOLVERS)
+def test_a_solvers_proof_of_a_random_formula(command: str, tmp_path: Path) -> None:
+    formula = generated("random 150 1", tmp_path)
+    want_proved(check([formula, proof_by(command, formula, tmp_path)]))
+
+
+@pytest.mark.parametrize("command", SOLVERS)
+def test_a_solvers_proof_of_bounded_model_checking(command: str, tmp_path: Path) -> None:
+    want_proved(check([example("bmc.cnf"), proof_by(command, example("bmc.cnf"), tmp_path)]))
+
+
+def test_a_proof_from_standard_input(solved: Solved) -> None:
+    with solved.proof.open("rb") as file:
+        want_proved(check([solved.formula, "-"], stdin=file))
+
+
+def test_a_formula_from_standard_input(solved: Solved) -> None:
+    with solved.formula.open("rb") as file:
+        want_proved(check(["-", solved.proof], stdin=file))
+
+
+def test_a_proof_from_a_pipe(solved: Solved, tmp_path: Path) -> None:
+    pipe = piped(tmp_path / "pipe")
+    feed(pipe, [solved.proof.read_bytes()])
+    want_proved(check([solved.formula, pipe]))
+
+
+@pytest.mark.usefixtures("solve_for_tests")
+def test_rounds(solved: Solved, tmp_path: Path) -> None:
+    """The record of a check in several rounds is checked again."""
+    kept = tmp_path / "kept"
+    answer = check(["-v", "--proofs", kept, *solved], tested={"FIRST_WORDS": 4000, "SAME_WORDS": 1})
     want_proved(answer)
-    want(sum(line.startswith("round ") for line in answer.comments) >= 2, True,
-         f"whether there are rounds in\n{answer.out}")
+    assert sum(line.startswith("round ") for line in answer.comments) >= 2, answer.out
     check_again(kept)
 
 
-def by_hand(text: str, proof: str, work: Path) -> None:
-    want_proved(check([written(text, work), written(proof, work, "proof")]))
+def test_core_and_lrat(solved: Solved, tmp_path: Path) -> None:
+    core, lrat = tmp_path / "core", tmp_path / "lrat"
+    want_proved(check(["--core", core, "--lrat", lrat, *solved]))
+    assert lrat_fault(read_formula(solved.formula), lrat.read_text()) == ""
 
 
-def with_hints(proof: str, said: str, work: Path) -> None:
-    """Wrong hints don't matter, since right ones are found, but a comment counts them."""
-    answer = check([written(XOR, work), written(proof, work, "proof")])
-    want_proved(answer)
-    want([line for line in answer.comments if "hints" in line], [said] * bool(said), "the comments")
+# Streams, which cite each other, and proofs side by side.
 
 
-def streams(order: Sequence[int], work: Path) -> None:
-    """The streams of four solvers, which cite each other, given in this order."""
-    want_proved(check([example("bmc.cnf"), *(EXAMPLES / BMC[number - 1] for number in order)]))
+@pytest.mark.parametrize("names", [["bmc.lrup"], [f"bmc-four.{stream}" for stream in range(1, 5)]],
+                         ids=["one", "four"])
+def test_the_example_solvers_streams(names: List[str]) -> None:
+    want_proved(check([example("bmc.cnf"), *map(example, names)]))
 
 
-def short_streams(work: Path) -> None:
-    """Streams that cite each other, and that a filter reads whole before it writes anything. One
-    has no empty clause, and the other one needs its lines."""
+def test_short_streams() -> None:
+    """A filter reads each stream whole before it writes anything. One has no empty clause, and the
+    other one needs its lines. Each run is another race."""
+    streams = [example(f"pigeonhole-two.{stream}") for stream in (1, 2)]
     for _ in range(10):
-        paths = [EXAMPLES / f"pigeonhole-two.{number}" for number in (1, 2)]
-        want_proved(check([example("pigeonhole.cnf"), "--time", "60", *paths]))
+        want_proved(check([example("pigeonhole.cnf"), "--time", "60", *streams]))
 
 
-def one_stream(work: Path) -> None:
-    want_proved(check([example("bmc.cnf"), EXAMPLES / "bmc.lrup"]))
-
-
-def side_by_side(work: Path) -> None:
-    """Proofs of three forms by two solvers, and the beginning of one of the proofs."""
-    formula = generated("pigeons 6", work)
-    proofs: List[Path] = []
-    for number, command in enumerate(("cadical -q formula proof",
-                                      "cadical -q --no-binary formula proof",
-                                      "picosat formula -R proof")):
-        proofs.append(proof_by(command, formula, work).rename(work / f"proof-{number}"))
-    cut = written("".join(proofs[1].read_text().splitlines(True)[:5]), work, "cut")
+def test_a_truncated_proof_beside_three_proofs(tmp_path: Path) -> None:
+    """The proofs are by two solvers, in three forms."""
+    formula = generated("pigeons 6", tmp_path)
+    proofs = [proof_by(command, formula, tmp_path).rename(tmp_path / f"proof-{number}")
+              for number, command in enumerate((CADICAL, CADICAL_TEXT, PICOSAT))]
+    cut = written("".join(proofs[1].read_text().splitlines(True)[:5]), tmp_path, "cut")
     answer = check([formula, cut, *proofs])
     want_proved(answer)
-    want([line for line in answer.comments if line.startswith(f"{cut}: ")],
-         [f"{cut}: the proof ends without the empty clause"],
-         f"the message on the truncated one, in\n{answer.out}")
+    assert [line for line in answer.comments if line.startswith(f"{cut}: ")] == [
+        f"{cut}: {EARLY_END}"]
 
 
-def beside_unreadable(work: Path) -> None:
+@pytest.mark.parametrize("comes_first", [True, False], ids=["before it", "after it"])
+def test_a_proof_beside_one_that_cannot_be_read(comes_first: bool) -> None:
     """A read error of one proof, which ends its process, ends no other one: a good proof is
     checked. Each run is another race."""
-    formula, proof = example("pigeonhole.cnf"), example("pigeonhole.lrup")
-    for proofs in ([proof, "/proc/self/mem"], ["/proc/self/mem", proof]) * 10:
-        answer = check([formula, *proofs])
+    proofs = [example("pigeonhole.lrup"), "/proc/self/mem"][::1 if comes_first else -1]
+    unread = "/proc/self/mem: it can't be read: Input/output error"
+    for _ in range(10):
+        answer = check([example("pigeonhole.cnf"), *proofs])
         want_proved(answer)
         # lrupd may have accepted the good proof before the other one is read.
-        want([line for line in answer.comments if "/proc" in line] in ([], [UNREADABLE]), True,
-             f"the comments of\n{answer.out}")
+        assert [line for line in answer.comments if "/proc" in line] in ([], [unread])
 
 
-def core_and_lrat(work: Path) -> None:
-    formula = generated("random 150 1", work)
-    proof = proof_by("cadical -q formula proof", formula, work)
-    want_proved(check(["--core", work / "core", "--lrat", work / "lrat", formula, proof]))
-    want(lrat_fault(read_formula(formula), (work / "lrat").read_text()), "",
-         "the LRAT checker's message")
+# Proofs by hand.
 
 
-def assumed(work: Path) -> None:
-    formula, assumptions = (written("p cnf 3 2\n-1 2 0\n-2 3 0\n", work),
-                            written("1 -3 0\n", work, "assumptions"))
-    proof, under = written("-1 3 0\n", work, "proof"), "s UNSATISFIABLE UNDER ASSUMPTIONS"
-    want_proved(check(["--assume", assumptions, formula, proof]), under, 8)
-    want_proved(check([f"--assume={assumptions}", formula, proof]), under, 8)
-    words = ["--assume", assumptions, "--expect", "unsat-under-assumptions", formula, proof]
-    want_proved(check(words), under, 0)
-    four, proof = written(FOUR, work, "four"), written("2 0\n0\n", work, "proof of four")
-    want_proved(check(["--assume", written("1 0\n", work, "assumptions"), four, proof]))
+@pytest.mark.parametrize("formula, proof", named([
+    ("DRUP", FOUR, PROOF), ("LRAT", FOUR, "5 2 0 1 2 0\n6 0 5 3 4 0\n"),
+    ("no empty clause, and one follows", FOUR, "2 0\n"),
+    ("an empty proof, and one follows", "p cnf 1 2\n1 0\n-1 0\n", "")]))
+def test_a_proof_by_hand(formula: str, proof: str, tmp_path: Path) -> None:
+    want_proved(check_texts(formula, proof, tmp_path))
+
+
+@pytest.mark.parametrize("proof, said", named([
+    ("right", "5 2 0 1 2 0\n6 0 5 3 4 0\n", []), ("none", "5 2 0 0\n6 0 0\n", []),
+    ("one too many, which is unit", "5 2 0 1 2 0\n6 1 0 5 3 0\n7 0 6 5 4 0\n", []),
+    ("one missing", "5 2 0 1 2 0\n6 0 5 3 0\n", ["1 line had other hints"]),
+    ("another order", "5 2 0 1 2 0\n6 0 3 4 5 0\n", ["1 line had other hints"]),
+    ("two lines", "5 2 0 2 0\n6 0 3 4 0\n", ["2 lines had other hints"])]))
+def test_hints(proof: str, said: List[str], tmp_path: Path) -> None:
+    """Wrong hints don't matter, since right ones are found, but a comment counts the lines that
+    have them."""
+    answer = check_texts(FOUR, proof, tmp_path)
+    want_proved(answer)
+    assert [line for line in answer.comments if "hints" in line] == said
+
+
+@pytest.mark.parametrize("options, status", [
+    ("--assume cube", 8), ("--assume=cube", 8),
+    ("--assume cube --expect unsat-under-assumptions", 0)])
+def test_a_proof_under_assumptions(options: str, status: int, tmp_path: Path) -> None:
+    written("1 -3 0\n", tmp_path, "cube")
+    written("p cnf 3 2\n-1 2 0\n-2 3 0\n", tmp_path, "formula")
+    written("-1 3 0\n", tmp_path, "proof")
+    answer = check([*options.split(), "formula", "proof"], cwd=tmp_path)
+    want_proved(answer, VERDICTS[8], status)
+
+
+def test_a_proof_without_the_assumptions_that_are_given(tmp_path: Path) -> None:
+    words = ["--assume", written("1 0\n", tmp_path, "cube"), written(FOUR, tmp_path)]
+    want_proved(check([*words, written(PROOF, tmp_path, "proof")]))
 
 
 # Faulty proofs.
 
 
-def refused(text: str, proof: str, cause: str, work: Path) -> None:
-    path = work / "proof"
-    path.write_bytes(proof.encode("latin-1"))
-    want_none(check([written(text, work), path]), f"{path}: {cause}")
+NONE = "no conflict by unit propagation: the clause "
+RAT = " is a RAT step, which lrupd doesn't check"
+NOT_RAT = " doesn't follow from those that weren't deleted, and it isn't RAT"
+UNDELETED = ("It would follow if no clause had been deleted before it: see lrup-exact's "
+             "--ignore-deletions")
 
 
-def unusable(text: str, proof: bytes, cause: str, work: Path) -> None:
-    """A file that isn't a proof at all: no answer, and status 1. Beside a proof it doesn't
-    count."""
-    formula, path = written(text, work), written(proof, work, "proof")
-    answer = check([formula, path])
-    want((answer.answers, answer.said, answer.status), ([], f"lrup-check: {path}: {cause}\n", 1),
-         f"the answer of\n{answer.out}")
-    other = written("-2 0\n", work, "other")
-    answer = check([formula, path, other])
-    want((answer.answers, answer.said, answer.status), (["s UNKNOWN"], "", 3),
-         f"the answer beside a proof that doesn't follow, of\n{answer.out}")
+@pytest.mark.parametrize("formula, proof, cause", named([
+    ("a clause that doesn't follow", "p cnf 2 3\n1 2 0\n-1 2 0\n1 -2 0\n", "2 0\n-1 0\n",
+     f"line 2: {NONE}-1 0{NOT_RAT}. Nor would it follow if none had been deleted"),
+    ("a RAT step", FIRST, "1 0\n", f"line 1: {NONE}1 0{RAT}"),
+    ("a deletion that came too early", FOUR, "d 1 2 0\n2 0\n1 0\n0\n",
+     f"line 2: {NONE}2 0{NOT_RAT}. {UNDELETED}"),
+    ("a proof that ends early", FOUR, SHORT, EARLY_END),
+    ("a new variable", FIRST, "3 0\n",
+     "line 1: a variable that the formula doesn't have: 3, above the header's 2")]))
+def test_a_faulty_proof(formula: str, proof: str, cause: str, tmp_path: Path) -> None:
+    want_unknown(check_texts(formula, proof, tmp_path), f"{tmp_path}/proof: {cause}")
 
 
-def expected(options: Sequence[str], proof: str, status: int, work: Path) -> None:
-    """Status 0 is a proved answer, whatever words there are: values may look like options."""
-    done = check([*options, written(XOR, work), written(proof, work, "proof")], cwd=work)
-    answer = "s UNSATISFIABLE" if proof == GOOD else "s UNKNOWN"
-    want((done.answers, done.status), ([answer], status), f"the answer, with {done.said}")
+def test_a_step_that_does_not_follow_is_shown_once(tmp_path: Path) -> None:
+    """With -v, there is a second line: whether the step would follow without deletions."""
+    proof = written("d 1 2 0\n2 0\n1 0\n0\n", tmp_path, "proof")
+    comments = check(["-v", written(FOUR, tmp_path), proof]).comments
+    assert [line for line in comments if line.startswith(f"{proof}:")] == [
+        f"{proof}: line 2: {NONE}2 0{NOT_RAT}", f"{proof}: {UNDELETED}"]
 
 
-def ended(number: signal.Signals, work: Path) -> None:
-    """A signal ends the whole run."""
-    mark, pipe = marked(work), work / "pipe"
-    os.mkfifo(pipe)
-    with started([SOLVE.with_name("lrup-check"), "--lrupd", PROGRAM, written(FOUR, work), pipe],
-                 stdout=subprocess.PIPE, stderr=subprocess.PIPE, text=True) as running:
-        until("it runs", lambda: len(processes_of(mark)) >= 6)
-        running.send_signal(number)
-        out, said = running.communicate(timeout=20)
-    answers = [line for line in out.splitlines() if line.startswith("s ")]
-    wanted = ["s UNKNOWN"] if number != signal.SIGKILL else []
-    want((running.returncode, answers, said), (-number, wanted, ""),
-         f"the status and answer in\n{out}")
-    none_left(mark)
+NO_STEP = "line 1: neither a step of LRAT text nor one of DRUP or DRAT text"
+each_file_that_is_no_proof = pytest.mark.parametrize("proof, cause", named([
+    ("empty", b"", EARLY_END), ("comments", b"c nothing\n\n", EARLY_END),
+    ("gzip", b"\x1f\x8b garbled", "byte 1: compressed: unpack it with zcat"),
+    ("xz", b"\xfd7zXZ\0 garbled", "byte 1: compressed: unpack it with xzcat"),
+    ("zip", b"PK\3\4\x14\0\xff", "line 1: neither text nor a binary proof"),
+    ("a program", b"\x7fELF\2\1\1\0\0\xff", "line 1: neither text nor a binary proof"),
+    ("a formula", FIRST.encode(), NO_STEP), ("an answer", b"s UNSATISFIABLE\n", NO_STEP)]))
 
 
-def of_satisfiable(seed: int, work: Path) -> None:
-    """A proof of another formula never refutes a satisfiable one."""
-    formula = generated(f"random 60 {seed} 3.0", work)
-    other = work / "other"
-    other.mkdir()
-    proof = proof_by("cadical -q --no-binary formula proof",
-                     generated(f"random 60 {seed} 6.0", other), work)
-    answer = check([formula, proof])
-    want((answer.answers, answer.status), (["s UNKNOWN"], 3), f"the answer of\n{answer.out}")
+@each_file_that_is_no_proof
+def test_a_file_that_is_no_proof_gives_no_answer(proof: bytes, cause: str, tmp_path: Path) -> None:
+    path = written(proof, tmp_path, "proof")
+    answer = check([written(FIRST, tmp_path), path])
+    assert (answer.answers, answer.status) == ([], 1), answer.out
+    assert answer.said == f"lrup-check: {path}: {cause}\n"
 
 
-def mutated(seed: int, work: Path) -> None:
-    """There is a verdict only for a proof whose lines all follow, as another checker confirms for
-    the LRAT text."""
-    formula, numbers = generated(f"random 40 {seed} 7.0", work), random.Random(seed)
-    lines = proof_by("cadical -q --no-binary formula proof", formula,
-                     work).read_text().splitlines(True)
+@each_file_that_is_no_proof
+def test_a_file_that_is_no_proof_does_not_count_beside_a_proof(proof: bytes, cause: str,
+                                                               tmp_path: Path) -> None:
+    """The proof has a step that doesn't follow."""
+    path, other = written(proof, tmp_path, "proof"), written("-2 0\n", tmp_path, "other")
+    answer = check([written(FIRST, tmp_path), path, other])
+    assert (answer.answers, answer.said, answer.status) == (["s UNKNOWN"], "", 3)
+    assert any(line == f"{path}: {cause}" for line in answer.comments)
+
+
+@pytest.mark.parametrize("seed", [1, 2, 3])
+def test_a_proof_of_another_formula(seed: int, tmp_path: Path) -> None:
+    """It never refutes a satisfiable one."""
+    (tmp_path / "other").mkdir()
+    other = generated(f"random 60 {seed} 6.0", tmp_path / "other")
+    proof = proof_by(CADICAL_TEXT, other, tmp_path)
+    answer = check([generated(f"random 60 {seed} 3.0", tmp_path), proof])
+    assert (answer.answers, answer.status) == (["s UNKNOWN"], 3), answer.out
+
+
+@pytest.mark.parametrize("seed", range(1, 41))
+def test_a_mutated_proof(seed: int, tmp_path: Path) -> None:
+    """There is a verdict only if all lines follow, as another checker confirms for the LRAT
+    text."""
+    formula, numbers = generated(f"random 40 {seed} 7.0", tmp_path), random.Random(seed)
+    lines = proof_by(CADICAL_TEXT, formula, tmp_path).read_text().splitlines(True)
     for at in numbers.choices([at for at, line in enumerate(lines) if line != "0\n"], k=3):
         words = lines[at].split()
         words[numbers.randrange(len(words) - 1)] = str(
             numbers.choice((-1, 1)) * numbers.randrange(1, 41))
         lines[at] = " ".join(words) + "\n"
-    answer = check(["--lrat", work / "lrat", formula, written("".join(lines), work, "proof")])
-    want(answer.status in (0, 3), True, f"the status {answer.status} of\n{answer.out}")
+    proof, lrat = written("".join(lines), tmp_path, "proof"), tmp_path / "lrat"
+    answer = check(["--lrat", lrat, formula, proof])
+    assert answer.status in (0, 3), answer.out
     if answer.status == 0:
-        want(lrat_fault(read_formula(formula), (work / "lrat").read_text()), "",
-             "the LRAT checker's message")
+        assert lrat_fault(read_formula(formula), lrat.read_text()) == ""
 
 
-def misused(words: Sequence[str], said: str, work: Path) -> None:
-    formula, proof = written(FOUR, work), written("0\n", work, "proof")
-    named = {"%formula": formula, "%proof": proof, "%folder": work, "%none": work / "none"}
-    answer = check([named.get(word, word) for word in words])
-    want((answer.out, answer.status), ("", 1), f"the output, with {answer.said}")
-    for name, path in named.items():
-        said = said.replace(name, str(path))
-    want(answer.said, f"lrup-check: {said}\n", "standard error")
+# Words and statuses.
 
 
-def no_writer(work: Path) -> None:
-    """With a pipe that has no writer, the run ends after --time."""
-    formula, pipe = written(FOUR, work), piped(work / "pipe")
-    begun = time.monotonic()
-    want_none(check(["--time", "1", formula, pipe]), "time is up")
-    want(time.monotonic() - begun < 6, True, "whether it ended in time")
+def check_with(options: str, proof: str, work: Path) -> Answer:
+    return check([*options.split(), written(FOUR, work), written(proof, work, "proof")], cwd=work)
 
 
-def late_writer(work: Path) -> None:
-    formula, pipe = written(FOUR, work), piped(work / "pipe")
-    writer = threading.Timer(1, pipe.write_text, ["2 0\n0\n"])
+@pytest.mark.parametrize("options, status", [
+    ("", 0), ("--expect unsat", 0), ("-q --expect unsat", 0), ("--proofs --expect", 0),
+    ("--proofs --assume --", 0), ("--expect unsat-under-assumptions", 1)])
+def test_status_of_a_proof(options: str, status: int, tmp_path: Path) -> None:
+    """It is 0 unless another answer is expected. Values may look like options."""
+    answer = check_with(options, PROOF, tmp_path)
+    assert (answer.answers, answer.status) == (["s UNSATISFIABLE"], status), answer.said
+
+
+@pytest.mark.parametrize("options, status", [
+    ("-q", 3), ("--expect=unsat", 1), ("--expect unsat", 1), ("--proofs --expect", 3),
+    ("--proofs=--expect", 3), ("--proofs --help", 3)])
+def test_status_of_a_proof_that_ends_early(options: str, status: int, tmp_path: Path) -> None:
+    """It isn't 0, whatever words there are."""
+    answer = check_with(options, SHORT, tmp_path)
+    assert (answer.answers, answer.status) == (["s UNKNOWN"], status), answer.said
+
+
+NO_PROOF = "no proof: lrup-check FORMULA PROOF"
+STARTS_NONE = "is lrup-solve's: lrup-check starts no engine"
+
+
+@pytest.mark.parametrize("words, said", [
+    ("formula", NO_PROOF), ("", NO_PROOF),
+    ("none proof", "none: No such file or directory"),
+    ("formula none", "none: No such file or directory"), ("formula folder", "folder is a folder"),
+    ("- -", "standard input can be read only once"),
+    ("--mpi mpirun formula proof", f"--mpi {STARTS_NONE}"),
+    ("--solver 'x %formula %proof' formula proof", f"--solver {STARTS_NONE}"),
+    ("--seed 1 formula proof", f"--seed {STARTS_NONE}"),
+    ("--share-size 4 formula proof", f"--share-size {STARTS_NONE}"),
+    ("--no-share formula proof", f"--no-share {STARTS_NONE}"),
+    ("formula proof --seed=1", f"--seed {STARTS_NONE}"),
+    ("-j 0 formula proof", "-j takes 1 to 64, not 0"),
+    ("--expect sat formula proof",
+     "--expect takes unsat or unsat-under-assumptions, not sat")])
+def test_words_that_are_refused(words: str, said: str, tmp_path: Path) -> None:
+    written(FOUR, tmp_path, "formula")
+    written("0\n", tmp_path, "proof")
+    (tmp_path / "folder").mkdir()
+    answer = check(shlex.split(words), cwd=tmp_path)
+    assert (answer.out, answer.said, answer.status) == ("", f"lrup-check: {said}\n", 1)
+
+
+def test_help() -> None:
+    answer = check(["--help"])
+    assert answer.out.startswith("usage: lrup-check [OPTIONS] FORMULA PROOF")
+    assert (answer.said, answer.status) == ("", 2)
+
+
+def test_version() -> None:
+    answer = check(["--version"])
+    assert answer.out == f"lrup-check {(ROOT / 'VERSION').read_text()}"
+    assert (answer.said, answer.status) == ("", 2)
+
+
+def test_names_that_begin_with_a_minus(tmp_path: Path) -> None:
+    """They follow `--`. The command is a link, in another folder than the program."""
+    link = tmp_path / "link"
+    link.symlink_to(CHECK)
+    written(FOUR, tmp_path, "-formula")
+    written(PROOF, tmp_path, "-proof")
+    want_proved(Answer(run([link, "--lrupd", PROGRAM, "--", "-formula", "-proof"], cwd=tmp_path)))
+
+
+def test_without_lrup_solve(tmp_path: Path) -> None:
+    program = Path(shutil.copy(CHECK, tmp_path))
+    assert run([program, written(FOUR, tmp_path), "/dev/null"]) == Ran(
+        "", f"lrup-check: cannot start {tmp_path}/lrup-solve: No such file or directory\n", 1)
+
+
+def test_it_is_no_script() -> None:
+    """A shell that can't read a script ends with 0, which is a verdict."""
+    assert CHECK.read_bytes()[:4] == b"\x7fELF"
+
+
+# Pipes, terminals and signals.
+
+
+def test_a_pipe_without_a_writer(tmp_path: Path) -> None:
+    """The run ends after --time."""
+    formula, pipe, began = written(FOUR, tmp_path), piped(tmp_path / "pipe"), time.monotonic()
+    want_unknown(check(["--time", "1", formula, pipe]), "time is up")
+    assert time.monotonic() - began < 6
+
+
+def test_a_pipe_whose_writer_is_late(tmp_path: Path) -> None:
+    formula, pipe = written(FOUR, tmp_path), piped(tmp_path / "pipe")
+    writer = threading.Timer(1, pipe.write_text, [PROOF])
     writer.daemon = True
     writer.start()
     want_proved(check([formula, pipe]))
 
 
-def by_substitution(work: Path) -> None:
-    formula, proof = written(FOUR, work), written("2 0\n0\n", work, "proof")
-    program = SOLVE.with_name("lrup-check")
-    want_proved(Answer(run(["bash", "-c", '"$0" --lrupd "$1" <(cat "$2") <(cat "$3")', program,
+def test_process_substitution(tmp_path: Path) -> None:
+    formula, proof = written(FOUR, tmp_path), written(PROOF, tmp_path, "proof")
+    want_proved(Answer(run(["bash", "-c", '"$0" --lrupd "$1" <(cat "$2") <(cat "$3")', CHECK,
                             PROGRAM, formula, proof])))
 
 
-def at_a_terminal(name: str, work: Path) -> None:
+@pytest.mark.parametrize("name, shown", [("-", "standard input"), ("/dev/stdin", "/dev/stdin"),
+                                         ("/dev/tty", "/dev/tty")])
+def test_a_proof_at_a_terminal(name: str, shown: str, tmp_path: Path) -> None:
     """The process that would read the proof is in the background, where a terminal stops it."""
-    master, terminal = pty.openpty()
+    leader, terminal = pty.openpty()
 
     def take_terminal() -> None:
         os.setsid()
         fcntl.ioctl(0, termios.TIOCSCTTY, 0)
 
     try:
-        answer = check([written(FOUR, work), name], stdin=terminal, preexec_fn=take_terminal,
+        answer = check([written(FOUR, tmp_path), name], stdin=terminal, preexec_fn=take_terminal,
                        limit=20)
     finally:
-        os.close(master)
+        os.close(leader)
         os.close(terminal)
-    shown = "standard input" if name == "-" else name
-    want((answer.out, answer.said, answer.status),
-         ("", f"lrup-check: {shown} is a terminal: name a file, or use a pipe\n", 1), "the answer")
+    assert (answer.out, answer.status) == ("", 1)
+    assert answer.said == f"lrup-check: {shown} is a terminal: name a file, or use a pipe\n"
 
 
-def said_once(work: Path) -> None:
-    """With -v, a step that doesn't follow is shown once, and then whether it would without
-    deletions."""
-    formula, proof = written(XOR, work), written("d 1 2 0\n1 0\n2 0\n0\n", work, "proof")
-    comments = check(["-v", formula, proof]).comments
-    lines = [line for line in comments if line.startswith(f"{proof}:")]
-    want(lines, [f"{proof}: line 2: {NONE}1 0{NOT_RAT}", f"{proof}:{DELETED[1:]}"], "the comments")
-
-
-def help_of(work: Path) -> None:
-    answer = check(["--help"])
-    want((answer.out.startswith("usage: lrup-check [OPTIONS] FORMULA PROOF"), answer.said,
-          answer.status),
-         (True, "", 2), "--help")
-    answer = check(["--version"])
-    want((answer.out, answer.said, answer.status),
-         (f"lrup-check {(ROOT / 'VERSION').read_text()}", "", 2), "--version")
-
-
-def anywhere(work: Path) -> None:
-    """The command works through a link, in another folder, with file names that begin with a
-    minus."""
-    link = work / "link"
-    link.symlink_to(SOLVE.with_name("lrup-check"))
-    shutil.copy(written(XOR, work), work / "-formula")
-    (work / "-proof").write_text("1 0\n0\n")
-    want_proved(Answer(run([str(link), "--lrupd", PROGRAM, "--", "-formula", "-proof"], cwd=work)))
-
-
-def alone(work: Path) -> None:
-    """lrup-check is no script, which a shell that can't read it ends with 0, and without lrup-solve
-    it says so."""
-    program = Path(shutil.copy(SOLVE.with_name("lrup-check"), work))
-    want(program.read_bytes()[:4], b"\x7fELF", "the first bytes of lrup-check")
-    want(run([program, written(FOUR, work), "/dev/null"]),
-         Ran("", f"lrup-check: cannot start {work}/lrup-solve: No such file or directory\n", 1),
-         "the answer without lrup-solve")
-
-
-FORMS = ["cadical -q formula proof", "cadical -q --no-binary formula proof",
-         "cryptominisat5 --verb 0 formula proof", "picosat formula -R proof"]
-NONE = "no conflict by unit propagation: the clause "
-RAT, NOT_RAT = (" is a RAT step, which lrupd doesn't check",
-                " doesn't follow from those that weren't deleted, and it isn't RAT")
-DELETED, NOT_DELETED = (". It would follow if no clause had been deleted before it: see "
-                        "lrup-exact's --ignore-deletions",
-                        ". Nor would it follow if none had been deleted")
-ROWS: List[Row] = [
-    *((f"{command}, {name}", of_solver, command, name, "file") for command in FORMS
-      for name in ("bmc.cnf", "random 150 1")),
-    *((f"by {how}", of_solver, FORMS[0], "random 150 1", how)
-      for how in ("standard input", "formula from standard input", "a pipe")),
-    ("in rounds", in_rounds), ("one stream", one_stream),
-    ("short streams", short_streams), ("four streams", streams, (1, 2, 3, 4)),
-    ("side by side", side_by_side), ("beside an unreadable one", beside_unreadable),
-    ("core and LRAT", core_and_lrat), ("assumptions", assumed),
-    ("DRUP by hand", by_hand, XOR, "1 0\n0\n"),
-    ("LRAT by hand", by_hand, XOR, "5 1 0 1 3 0\n6 0 5 2 4 0\n"),
-    *((f"hints: {name}", with_hints, proof, said) for name, proof, said in (
-        ("right", "5 1 0 1 3 0\n6 0 5 2 4 0\n", ""),
-        ("none", "5 1 0 0\n6 0 0\n", ""),
-        ("one too many, which is unit", "5 1 0 1 3 0\n6 2 0 5 2 0\n7 0 6 5 4 0\n", ""),
-        ("one missing", "5 1 0 1 3 0\n6 0 5 2 0\n", "1 line had other hints"),
-        ("another order", "5 1 0 1 3 0\n6 0 2 4 5 0\n", "1 line had other hints"),
-        ("two lines", "5 1 0 3 0\n6 0 2 4 0\n", "2 lines had other hints"))),
-    ("no empty clause, and one follows", by_hand, XOR, "1 0\n"),
-    ("an empty proof, and one follows", by_hand, "p cnf 1 2\n1 0\n-1 0\n", ""),
-    ("a clause that doesn't follow", refused, XOR.replace("-1 -2 0\n", "").replace("2 4", "2 3"),
-     "1 0\n-2 0\n", f"line 2: {NONE}-2 0{NOT_RAT}{NOT_DELETED}"),
-    ("a RAT step", refused, FIRST, "1 0\n", f"line 1: {NONE}1 0{RAT}"),
-    ("a deletion that came too early", refused, XOR, "d 1 2 0\n1 0\n2 0\n0\n",
-     f"line 2: {NONE}1 0{NOT_RAT}{DELETED}"),
-    ("a proof that ends early", refused, XOR, SHORT, "the proof ends without the empty clause"),
-    *((f"no proof: {name}", unusable, FIRST, proof, cause) for name, proof, cause in (
-        ("empty", b"", "the proof ends without the empty clause"),
-        ("comments", b"c nothing\n\n", "the proof ends without the empty clause"),
-        ("gzip", b"\x1f\x8b garbled", "byte 1: compressed: unpack it with zcat"),
-        ("xz", b"\xfd7zXZ\0 garbled", "byte 1: compressed: unpack it with xzcat"),
-        ("zip", b"PK\3\4\x14\0\xff", "line 1: neither text nor a binary proof"),
-        ("a program", b"\x7fELF\2\1\1\0\0\xff", "line 1: neither text nor a binary proof"),
-        ("a formula", FIRST.encode(),
-         "line 1: neither a step of LRAT text nor one of DRUP or DRAT text"),
-        ("an answer", b"s UNSATISFIABLE\n",
-         "line 1: neither a step of LRAT text nor one of DRUP or DRAT text"))),
-    *((f"{options}, status {status}", expected, options.split(), proof, status)
-      for options, proof, status in (
-          ("", GOOD, 0), ("--expect unsat", GOOD, 0), ("--expect=unsat", SHORT, 1),
-          ("--expect unsat", SHORT, 1), ("-q --expect unsat", GOOD, 0),
-          ("--expect unsat-under-assumptions", GOOD, 1), ("-q", SHORT, 3),
-          ("--proofs --expect", SHORT, 3), ("--proofs --expect", GOOD, 0),
-          ("--proofs --assume --", GOOD, 0), ("--proofs=--expect", SHORT, 3),
-          ("--proofs --help", SHORT, 3))),
-    *((f"ended by {number.name}", ended, number)
-      for number in (signal.SIGTERM, signal.SIGINT, signal.SIGHUP, signal.SIGKILL)),
-    ("a new variable", refused, FIRST, "3 0\n",
-     "line 1: a variable that the formula doesn't have: 3, above the header's 2"),
-    *((f"a proof of another formula, {seed}", of_satisfiable, seed) for seed in range(1, 4)),
-    *((f"mutated, {seed}", mutated, seed) for seed in range(1, 41)),
-    ("no proof", misused, ["%formula"], "no proof: lrup-check FORMULA PROOF"),
-    ("no word", misused, [], "no proof: lrup-check FORMULA PROOF"),
-    ("no formula that is there", misused, ["%none", "%proof"], "%none: No such file or directory"),
-    ("no proof that is there", misused, ["%formula", "%none"], "%none: No such file or directory"),
-    ("a folder", misused, ["%formula", "%folder"], "%folder is a folder"),
-    ("standard input twice", misused, ["-", "-"], "standard input can be read only once"),
-    *((f"an option of engines, {words[0]}", misused, [*words, "%formula", "%proof"],
-       f"{words[0]} is lrup-solve's: lrup-check starts no engine")
-      for words in (["--mpi", "mpirun"], ["--solver", "x %formula %proof"], ["--seed", "1"],
-                    ["--share-size", "4"], ["--no-share"])),
-    ("no filter", misused, ["-j", "0", "%formula", "%proof"], "-j takes 1 to 64, not 0"),
-    ("such an option after the proof", misused, ["%formula", "%proof", "--seed=1"],
-     "--seed is lrup-solve's: lrup-check starts no engine"),
-    ("an answer that no proof has", misused, ["--expect", "sat", "%formula", "%proof"],
-     "--expect takes unsat or unsat-under-assumptions, not sat"),
-    *((f"{name} at a terminal", at_a_terminal, name) for name in ("-", "/dev/stdin", "/dev/tty")),
-    ("said once", said_once), ("--help", help_of), ("anywhere", anywhere), ("alone", alone),
-    ("no writer", no_writer), ("a late writer", late_writer), ("by substitution", by_substitution),
-]
-
-pytestmark = FOR_TESTS
-test_row = parametrized(ROWS)
+@pytest.mark.parametrize("number", [signal.SIGTERM, signal.SIGINT, signal.SIGHUP, signal.SIGKILL],
+                         ids=lambda number: str(number.name))
+def test_a_signal_ends_the_whole_run(number: signal.Signals, tmp_path: Path) -> None:
+    mark, pipe = marked(tmp_path), piped(tmp_path / "pipe")
+    with started([CHECK, "--lrupd", PROGRAM, written(FOUR, tmp_path), pipe],
+                 stdout=subprocess.PIPE, stderr=subprocess.PIPE, text=True) as running:
+        until("it runs", lambda: len(processes_of(mark)) >= 6)
+        running.send_signal(number)
+        out, said = running.communicate(timeout=20)
+    answers = [line for line in out.splitlines() if line.startswith("s ")]
+    assert (running.returncode, said) == (-number, "")
+    assert answers == ([] if number == signal.SIGKILL else ["s UNKNOWN"])
+    none_left(mark)

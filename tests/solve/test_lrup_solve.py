@@ -1,10 +1,10 @@
-"""Runs lrup-solve with the program, and under failures.
+"""lrup-solve with the program: its answers, also with cubes of its own; and processes that are
+killed, signals, terminals, full disks and closed outputs.
 
-One to eight engines solve known formulas with each status, and 300 random ones with early
-inprocessing. Each child is killed in turn; there are signals, a full disk and closed outputs. In a
-build for tests, the rules of sharing are left out one by one: each omission has to be noticed.
-`make` builds both programs, with --flags for the compilers; if it doesn't find CaDiCaL's library,
-everything is skipped."""
+One to eight engines solve known formulas with each status, and random ones with early inprocessing.
+In a build for tests, the rules of sharing are left out one by one: each omission has to be
+noticed."""
+import contextlib
 import fcntl
 import os
 import pty
@@ -18,59 +18,86 @@ import tempfile
 import termios
 import time
 from pathlib import Path
-from typing import Any, Dict, List, Optional, Sequence, Set, Tuple
+from typing import Any, Dict, Iterator, List, Optional, Sequence, Set, Tuple
 
 import pytest
 
-from harness import (EXAMPLES, FOUR, LIMIT, PROGRAM, ROOT, Ran, Row, dimacs, example, generated,
-                     in_shell, needs, parametrized, random_clauses, run, started, until, want,
+from harness import (EXAMPLES, FOUR, LIMIT, PROGRAM, ROOT, VERDICTS, Ran, dimacs, example,
+                     generated, in_shell, named, needs, random_clauses, run, started, until,
                      written)
 from proof_forms import read_formula
-from solving import (ANSWERS, EARLY, ELIMINATING, FOR_TESTS, SOLVE, Answer, check_again,
-                     children_of, command, end_group, goes_on, in_environment, in_place_of_lrupd,
-                     is_alive, kill_children, of_process, random_formula, rests_on, solve,
-                     want_answer)
+from solving import (EARLY, ELIMINATING, SOLVE, Answer, check_again, children_of, command,
+                     end_group, goes_on, in_environment, in_place_of_lrupd, is_alive,
+                     kill_children, of_process, random_formula, rests_on, says, solve, want_answer,
+                     want_cause)
 
+pytestmark = pytest.mark.usefixtures("solve_for_tests")
 MITERS = EXAMPLES / "miter"
 TRIES = 10      # runs, since a run may end before the test intervenes
 SOON = 9        # seconds, fewer than a filter has for its last line
-PROGRESS = re.compile(rb"\r([^\r\n\x1b]* conflicts[^\r\n\x1b]*)\x1b\[K")
 
 
 # Answers.
 
 
-def answers(text: str, status: int, words: List[str], work: Path) -> None:
-    formula = written(text, work)
-    want_answer(solve([*words, formula]), status, formula)
+each_way = pytest.mark.parametrize("options", [
+    ["-j", "1"], ["-j", "2"], ["-j", "3"], ["-j", "5"], ["-j", "8"], ["-j", "3", "--no-share"],
+    ["-v"], ["--share-size", "0"], []], ids=" ".join)
 
 
-def answers_of(words_or_name: str, status: int, options: List[str], work: Path) -> None:
-    formula = (example(words_or_name) if words_or_name.endswith(".cnf")
-               else generated(words_or_name, work))
+@each_way
+@pytest.mark.parametrize("text, status", named([
+    ("four clauses", FOUR, 20), ("empty clause", "p cnf 2 2\n1 2 0\n0\n", 20),
+    ("no clauses", "p cnf 3 0\n", 10), ("nothing", "p cnf 0 0\n", 10),
+    ("the empty clause alone", "p cnf 0 1\n0\n", 20),
+    ("units", "p cnf 2 3\n1 0\n-1 2 0\n-2 0\n", 20),
+    ("tautologies", "p cnf 3 4\n1 -1 0\n2 2 3 0\n-2 3 3 0\n-3 -3 0\n", 20)]))
+def test_small_formulas(text: str, status: int, options: List[str], tmp_path: Path) -> None:
+    formula = written(text, tmp_path)
     want_answer(solve([*options, formula]), status, formula)
 
 
-def without_a_clause(work: Path) -> None:
-    """A formula that is refuted, and a satisfiable one that lacks one of its clauses."""
+@each_way
+def test_an_unsatisfiable_example(options: List[str]) -> None:
+    want_answer(solve([*options, example("bmc.cnf")]), 20)
+
+
+@each_way
+def test_a_satisfiable_formula(options: List[str], tmp_path: Path) -> None:
+    formula = generated("random 120 7 3.6", tmp_path)
+    want_answer(solve([*options, formula]), 10, formula)
+
+
+@pytest.mark.parametrize("words, engines", [("random 200 2", 4), ("pigeons 7", 3), ("order 20", 2)])
+def test_an_unsatisfiable_formula(words: str, engines: int, tmp_path: Path) -> None:
+    want_answer(solve(["-j", engines, generated(words, tmp_path)]), 20)
+
+
+def test_an_unsatisfiable_formula_without_one_of_its_clauses(tmp_path: Path) -> None:
     clauses = read_formula(example("pigeonhole.cnf"))
-    formula = written(dimacs(30, clauses[1:]), work)
+    formula = written(dimacs(30, clauses[1:]), tmp_path)
     want_answer(solve([formula]), 10, formula)
 
 
-def randomly(seed: int, work: Path) -> None:
-    """The answer isn't 'unknown': an assignment is evaluated here, and a kept proof is checked
-    again."""
+def test_a_formula_with_comments(tmp_path: Path) -> None:
+    text = "c a comment\n" + FOUR.replace("-1 2 0\n", "c another\n-1 2 0\n")
+    want_answer(solve([written(text, tmp_path)]), 20)
+
+
+@pytest.mark.seeds(300)
+def test_random(seed: int, tmp_path: Path) -> None:
+    """The answer isn't 'unknown', with early inprocessing: an assignment is evaluated here, and a
+    kept proof is checked again."""
     numbers = random.Random(f"{seed} engines")
-    formula = written(random_formula(seed), work)
+    formula, kept = written(random_formula(seed), tmp_path), tmp_path / "proofs"
     words = ["-v", "--memory", "64M", "--seed", seed, "-j", numbers.randint(2, 4), formula]
-    kept = work / "proofs"
     keeps = seed % 10 == 0
     early = {"SET": EARLY, "SLICE": numbers.choice((20, 50, 200)),
              "FIRST_WORDS": numbers.choice((1000, 1 << 20))}
     answer = solve([*["--proofs", kept] * keeps, *words], tested=early)
-    want(answer.lost(), [], "engines that are lost")
-    want_answer(answer, answer.status if answer.status in (10, 20) else 20, formula)
+    assert answer.lost() == []
+    assert answer.status in (10, 20), answer.out
+    want_answer(answer, answer.status, formula)
     if keeps and answer.status == 20:
         check_again(kept)
 
@@ -78,12 +105,12 @@ def randomly(seed: int, work: Path) -> None:
 # CaDiCaL's own search.
 
 
-def solved_alone(words: Sequence[object], **how: Any) -> int:
+def conflicts_of(words: Sequence[object], **how: Any) -> int:
     """The conflicts of CaDiCaL, from the last row of its report."""
     done = run(words, **how)
-    rows = re.findall(r"^c [01] +[\d.]+ +\d+ +\d+ +\d+ +\d+ +(\d+) .*$", done.out + done.err, re.M)
-    want(len(rows), 1, f"last rows of {words}")
-    return int(rows[0])
+    found = re.findall(r"^c [01] +[\d.]+ +\d+ +\d+ +\d+ +\d+ +(\d+) .*$", done.out + done.err, re.M)
+    assert len(found) == 1, done.out + done.err
+    return int(found[0])
 
 
 def unordered(text: str, seed: int) -> str:
@@ -99,42 +126,52 @@ def unordered(text: str, seed: int) -> str:
     return dimacs(int(header.split()[2]), clauses)
 
 
-def as_alone(words: str, seed: int, work: Path) -> None:
-    """A single engine searches as `cadical` does on the same file, whatever the file's order."""
+@pytest.mark.parametrize("words", ["order 20", "pigeons 7", "random 150 1", "random 150 7 3.6"])
+@pytest.mark.parametrize("order", [None, 1, 2], ids=["as generated", "shuffled", "another order"])
+def test_one_engine_searches_as_cadical_does(words: str, order: Optional[int],
+                                             tmp_path: Path) -> None:
+    """On the same file, whatever the order of its clauses."""
     needs("cadical")
-    formula = generated(words, work)
-    if seed:
-        formula = written(unordered(formula.read_text(), seed), work)
-    wanted, engine = solved_alone(["cadical", formula]), {"SET": "quiet=0 report=1"}
-    found = solved_alone(command(["-j", "1", formula], engine), env=in_environment(engine))
-    want(abs(found - wanted) <= wanted / 10, True, f"conflicts: {found} in place of {wanted}")
+    formula = generated(words, tmp_path)
+    if order is not None:
+        formula = written(unordered(formula.read_text(), order), tmp_path)
+    alone, engine = conflicts_of(["cadical", formula]), {"SET": "quiet=0 report=1"}
+    found = conflicts_of(command(["-j", "1", formula], engine), env=in_environment(engine))
+    assert abs(found - alone) <= alone / 10, f"{found} conflicts in place of {alone}"
 
 
-def holes(work: Path) -> None:
-    """A formula with as many pigeonholes as pigeons, which a lucky assignment satisfies. CaDiCaL
-    tries lucky assignments only once."""
+def test_as_many_holes_as_pigeons(tmp_path: Path) -> None:
+    """A lucky assignment satisfies the formula. CaDiCaL tries lucky assignments only once."""
     names = [[pigeon * 40 + hole + 1 for pigeon in range(40)] for hole in range(40)]
     clauses = [list(pigeon) for pigeon in zip(*names)] + [
         [-one, -other] for hole in names for one in hole for other in hole if one < other]
-    formula = written(dimacs(1600, clauses), work)
+    formula = written(dimacs(1600, clauses), tmp_path)
     answer = solve(["-v", "-j", "2", formula])
     want_answer(answer, 10, formula)
-    first, = [re.match(r"engine 1: ([\d.]+) s, .*; 0 conflicts;", line) for line in answer.comments
-              if line.startswith("engine 1: ")]
-    want(first is not None and float(first[1]) < 0.3, True,
-         f"whether engine 1 was quick\n{answer.comments}")
+    seconds, = re.findall(r"^c engine 1: ([\d.]+) s, .*; 0 conflicts;", answer.out, re.M)
+    assert float(seconds) < 0.3
 
 
-def impostor(body: str, cause: str, work: Path) -> None:
+# Other programs in place of lrupd.
+
+
+UNTAKEN = "lrupd (hasn't accepted the proof|ended with status 3)"
+
+
+@pytest.mark.parametrize("body, cause", [
+    ("exit 3", UNTAKEN), ("exit 6", "ended with status 6"), ("exit 10", "ended with status 10"),
+    ("echo s UNSATISFIABLE; exit 3", UNTAKEN), ("kill -9 $$", "ended by a signal"),
+    ("echo 'c stream 1: 0 added, 0 deleted, bad line 1 (missing 555)'; echo s UNKNOWN; exit 3",
+     "missing 555")])
+def test_another_lrupd(body: str, cause: str, tmp_path: Path) -> None:
     """In place of lrupd there is a program that accepts the formula and proves nothing."""
-    path = in_place_of_lrupd(f"case \"$*\" in *' /dev/null') exit 3;; esac\n{body}", work)
+    path = in_place_of_lrupd(f"case \"$*\" in *' /dev/null') exit 3;; esac\n{body}", tmp_path)
     answer = solve(["--lrupd", path, example("bmc.cnf")])
     want_answer(answer, 0)
-    assert any(re.search(cause, line) for line in answer.comments), (
-        f"expected a message on '{cause}', but found\n{answer.out}")
+    want_cause(answer, cause)
 
 
-# Events during a run.
+# Processes that are killed, and signals.
 
 
 class Running:
@@ -178,71 +215,182 @@ class Running:
         return Answer(Ran(out, said, self.process.returncode))
 
 
-def killed(names: List[str], number: int, status: int, cause: str, work: Path) -> None:
-    """Children are killed: the others continue, or the answer is 'unknown'. A run that ends before
-    that is tried again."""
+@pytest.fixture
+def running(tmp_path: Path) -> Iterator[Running]:
+    """A run that takes long."""
+    with Running(generated("pigeons 11", tmp_path), tmp_path) as running:
+        yield running
+
+
+def kill(names: List[str], number: int, status: int, cause: str, work: Path) -> None:
+    """Kills children of a run. If one has already ended, the run is tried again."""
     formula = generated("random 220 5", work) if status else generated("pigeons 11", work)
-    said = ""
+    said = []
     for _ in range(TRIES):
         with Running(formula, work) as running:
             try:
                 kill_children(running.children, names, number)
-            except ProcessLookupError:
+            except ProcessLookupError as error:
+                said.append(repr(error))
                 continue
             answer = running.end()
         want_answer(answer, status, formula)
-        if any(cause in line for line in answer.comments):
+        if says(answer, cause):
             return
-        said = answer.out
-    raise AssertionError(f"expected a message on '{cause}', but found\n{said}")
+        said.append(answer.out)
+    raise AssertionError(f"expected a message on '{cause}', but found\n" + "\n".join(said))
 
 
-def dealt(answer: Answer) -> List[int]:
+@pytest.mark.parametrize("name, number, cause", [
+    ("engine 1", signal.SIGKILL, "engine 1 is lost"),
+    ("engine 2", signal.SIGTERM, "engine 2 is lost"),
+    ("filter 1", signal.SIGKILL, "engine 1 is lost"),
+    ("filter 2", signal.SIGTERM, "engine 2 is lost")])
+def test_the_other_engine_continues(name: str, number: signal.Signals, cause: str,
+                                    tmp_path: Path) -> None:
+    kill([name], number, 20, cause, tmp_path)
+
+
+@pytest.mark.parametrize("names, cause", named([
+    ("lrupd", ["lrupd"], "lrupd ended by a signal"),
+    ("an engine and a filter", ["engine 1", "filter 2"], "no engine is left")]))
+def test_killed_without_an_answer(names: List[str], cause: str, tmp_path: Path) -> None:
+    kill(names, signal.SIGKILL, 0, cause, tmp_path)
+
+
+def want_ended_by(number: int, answer: Answer) -> None:
+    assert (answer.answers, answer.status) == (["s UNKNOWN"], -number)
+
+
+@pytest.mark.parametrize("number", [signal.SIGINT, signal.SIGTERM, signal.SIGHUP],
+                         ids=lambda number: str(number.name))
+def test_ended_by_a_signal(running: Running, number: signal.Signals) -> None:
+    began = time.monotonic()
+    running.process.send_signal(number)
+    want_ended_by(number, running.end())
+    assert time.monotonic() - began < SOON
+
+
+@pytest.mark.parametrize("number", [signal.SIGHUP, signal.SIGINT],
+                         ids=lambda number: str(number.name))
+def test_an_ignored_signal(number: signal.Signals, tmp_path: Path) -> None:
+    """A signal that was ignored at the start stays ignored, as under nohup."""
+    with Running(generated("pigeons 11", tmp_path), tmp_path,
+                 ignored=[number, signal.SIGCHLD]) as running:
+        running.process.send_signal(number)
+        goes_on(running.process)
+        assert running.process.poll() is None
+        running.process.send_signal(signal.SIGTERM)
+        answer = running.end()
+    want_ended_by(signal.SIGTERM, answer)
+    assert "ended by a signal: Terminated" in answer.comments
+
+
+def test_stopped_and_continued(running: Running) -> None:
+    """Ctrl-Z stops engines and filters with the front, which has its own process group, and they
+    continue with it."""
+    pids = [running.process.pid,
+            *(running.children[name] for name in ("lrup-engines", "engine 1", "filter 2"))]
+
+    def states() -> Set[str]:
+        return {of_process(pid, "stat").rsplit(")", 1)[-1].split()[0] for pid in pids}
+
+    running.process.send_signal(signal.SIGTSTP)
+    until("all are stopped", lambda: states() == {"T"})
+    running.process.send_signal(signal.SIGCONT)
+    until("all continue", lambda: "T" not in states())
+    running.process.terminate()
+    want_ended_by(signal.SIGTERM, running.end())
+
+
+def test_stopped_processes_are_ended(running: Running) -> None:
+    """The run removes its files, too."""
+    os.kill(running.children["lrup-engines"], signal.SIGSTOP)
+    running.process.terminate()
+    want_ended_by(signal.SIGTERM, running.end())
+
+
+def test_the_front_is_killed(running: Running) -> None:
+    """The others end, too."""
+    running.process.kill()
+    assert running.end().status == -signal.SIGKILL
+
+
+def test_engines_and_filters_give_way(running: Running) -> None:
+    """If memory is short, the system kills them first: their oom_score_adj is 1000, the maximum,
+    and nobody lowers it."""
+    pids = {name: pid for name, pid in running.children.items()
+            if name[:6] in ("engine", "filter")}
+    until("engines and filters give way", lambda: {
+        of_process(pid, "oom_score_adj") for pid in pids.values()} == {"1000\n"})
+    own = of_process(os.getpid(), "oom_score_adj")
+    assert of_process(running.process.pid, "oom_score_adj") == own
+    assert of_process(running.children["lrupd"], "oom_score_adj") == own
+
+
+def test_time_is_up(tmp_path: Path) -> None:
+    formula, began = generated("pigeons 11", tmp_path), time.monotonic()
+    answer = solve(["--time", "0.7", formula])
+    want_answer(answer, 0)
+    assert "time is up" in answer.comments
+    assert 0.7 <= time.monotonic() - began < SOON
+
+
+# Cubes.
+
+
+def cubes_of(answer: Answer) -> List[int]:
     """How many cubes were dealt out, refuted, and handed on."""
     found = [re.findall(r"\d[\d,]*", line) for line in answer.comments
              if line.startswith("cubes: ")]
     return [int(number.replace(",", "")) for number in found[0]] if found else [0, 0, 0]
 
 
-def cubes(words: str, status: int, engines: int, work: Path) -> None:
+@pytest.mark.parametrize("engines", [3, 4, 6])
+@pytest.mark.parametrize("words, status", [("random 200 2", 20), ("pigeons 8", 20),
+                                           ("order 20", 20), ("random 260 3 4.1", 10)])
+def test_cubes(words: str, status: int, engines: int, tmp_path: Path) -> None:
     """Engines divide the formula, and an engine that satisfies its part satisfies the formula. If
     there is an answer before any engine has a cube, the run is tried again."""
-    formula = generated(words, work)
+    formula = generated(words, tmp_path)
     for _ in range(TRIES):
         answer = solve(["-v", "-j", engines, formula], tested={"SLICE": 20})
-        want(answer.lost(), [], "engines that are lost")
+        assert answer.lost() == []
         want_answer(answer, status, formula)
-        if dealt(answer)[0] >= engines and (status == 10 or dealt(answer)[1] > 0):
+        dealt_out, refuted, _ = cubes_of(answer)
+        if dealt_out >= engines and (status == 10 or refuted > 0):
             return
-    raise AssertionError(f"no cubes were dealt out, or none refuted\n{answer.out[-2000:]}")
+    raise AssertionError(f"no cubes were dealt out, or none refuted\n{answer.out}")
 
 
-def randomly_cubed(seed: int, work: Path) -> None:
-    """As in `randomly`, the answer isn't 'unknown'; here in rounds and with assumptions."""
+@pytest.mark.seeds(100)
+def test_random_with_cubes(seed: int, tmp_path: Path) -> None:
+    """As in `test_random`, the answer isn't 'unknown'; here in rounds and with assumptions."""
     numbers = random.Random(f"{seed} cubes")
     size = numbers.randrange(60, 150)
-    formula = written(
-        dimacs(size, random_clauses(numbers, size, round(numbers.uniform(4, 4.6) * size))), work)
+    formula = written(dimacs(size, random_clauses(
+        numbers, size, round(numbers.uniform(4, 4.6) * size))), tmp_path)
     literals = [variable * numbers.choice((-1, 1))
                 for variable in numbers.sample(range(1, size), numbers.choice((0, 0, 1, 3)))]
-    cube = written(" ".join(map(str, [*literals, 0])) + "\n", work, "cube")
+    assumed = written(" ".join(map(str, [*literals, 0])) + "\n", tmp_path, "cube")
     early = {"SET": EARLY, "SLICE": numbers.choice((5, 10, 30)),
              "FIRST_WORDS": numbers.choice((1000, 1 << 20))}
     answer = solve(["-v", "--memory", "64M", "--seed", seed, "-j", numbers.choice((3, 4)),
-                    "--assume", cube, formula], tested=early)
-    want(answer.lost(), [], "engines that are lost")
-    want(answer.status in (10, 20) and (answer.status == 20 or set(literals) <= set(answer.values)),
-         True, f"the answer\n{answer.out}")
-    under = (answer.answers
-             if answer.answers in ([ANSWERS[20]], ["s UNSATISFIABLE UNDER ASSUMPTIONS"])
-             else [ANSWERS[answer.status]])
-    want_answer(answer, answer.status, formula, under[0])
+                    "--assume", assumed, formula], tested=early)
+    assert answer.lost() == []
+    assert answer.status in (10, 20), answer.out
+    if answer.status == 10:
+        assert set(literals) <= set(answer.values)
+    is_under = answer.status == 20 and answer.answers == [VERDICTS[8]]
+    want_answer(answer, answer.status, formula, VERDICTS[8] if is_under else None)
 
 
-def killed_with_a_cube(name: str, work: Path) -> None:
-    """Another engine takes the cube of a killed one, and there is an answer. Slices are long, so
-    the engine is killed before it has refuted its cube."""
-    formula = generated("pigeons 8", work)
+# The others may refute everything before the process is killed.
+@pytest.mark.flaky(reruns=2)
+@pytest.mark.parametrize("name", ["engine 2", "engine 3", "filter 4"])
+def test_another_engine_gets_the_cube_of_a_lost_one(name: str, tmp_path: Path) -> None:
+    """Slices are long, so the engine is killed before it has refuted its cube."""
+    formula = generated("pigeons 8", tmp_path)
     with subprocess.Popen(command(["-v", "-j", "4", formula]), text=True, start_new_session=True,
                           stdout=subprocess.PIPE, stderr=subprocess.PIPE) as process:
         try:
@@ -256,417 +404,275 @@ def killed_with_a_cube(name: str, work: Path) -> None:
             end_group(process)
     answer = Answer(Ran(out, said, process.returncode))
     want_answer(answer, 20, formula)
-    want((len(answer.lost()), dealt(answer)[2] >= 1), (1, True),
-         f"the lost engines, and whether another one gets the cube\n{out}")
+    assert len(answer.lost()) == 1, out
+    assert cubes_of(answer)[2] >= 1, out
 
 
-def ended_by(number: int, work: Path) -> None:
-    with Running(generated("pigeons 11", work), work) as running:
-        begin = time.monotonic()
-        running.process.send_signal(number)
-        answer = running.end()
-    want((answer.answers, answer.status), (["s UNKNOWN"], -number), "the end")
-    want(time.monotonic() - begin < SOON, True, "whether it ended soon")
+# Outputs that can't be written.
 
 
-def ignored(number: int, work: Path) -> None:
-    """A signal that was ignored at the start stays ignored, as under nohup."""
-    with Running(generated("pigeons 11", work), work, ignored=[number, signal.SIGCHLD]) as running:
-        running.process.send_signal(number)
-        goes_on(running.process)
-        want(running.process.poll(), None, "the status after a signal that is ignored")
-        running.process.send_signal(signal.SIGTERM)
-        answer = running.end()
-    want((answer.answers, answer.status), (["s UNKNOWN"], -signal.SIGTERM), "the end")
-    want("ended by a signal: Terminated" in answer.comments, True,
-         f"a word on the other signal in\n{answer.out}")
+def want_one_line(answer: Answer, cause: str) -> None:
+    """There is no answer: a line of standard error says why."""
+    assert (answer.answers, answer.status, answer.said.count("\n")) == ([], 1, 1)
+    assert cause in answer.said
 
 
-def stopped(work: Path) -> None:
-    """Ctrl-Z stops engines and filters with the front, which has its own process group, and they
-    continue with it."""
-    with Running(generated("pigeons 11", work), work) as running:
-        pids = [running.process.pid,
-                *(running.children[name] for name in ("lrup-engines", "engine 1", "filter 2"))]
-
-        def states() -> Set[str]:
-            return {of_process(pid, "stat").rsplit(")", 1)[-1].split()[0] for pid in pids}
-
-        running.process.send_signal(signal.SIGTSTP)
-        until("all are stopped", lambda: states() == {"T"})
-        running.process.send_signal(signal.SIGCONT)
-        until("all continue", lambda: "T" not in states())
-        running.process.terminate()
-        answer = running.end()
-    want((answer.answers, answer.status), (["s UNKNOWN"], -signal.SIGTERM), "the end")
+def test_a_full_disk_for_streams(tmp_path: Path) -> None:
+    limit = lambda: resource.setrlimit(resource.RLIMIT_FSIZE, (4096, 4096))
+    answer = solve(["-j", "1", "--proofs", tmp_path, example("bmc.cnf")], preexec_fn=limit)
+    want_one_line(answer, "round-1.stream-1: File too large")
 
 
-def ended_while_stopped(work: Path) -> None:
-    """Stopped processes are ended, too, and the run removes its files."""
-    with Running(generated("pigeons 11", work), work) as running:
-        os.kill(running.children["lrup-engines"], signal.SIGSTOP)
-        running.process.terminate()
-        answer = running.end()
-    want((answer.answers, answer.status), (["s UNKNOWN"], -signal.SIGTERM), "the end")
+def test_a_full_disk_for_the_answer() -> None:
+    with open("/dev/full", "w") as full:
+        answer = solve([example("bmc.cnf")], stdout=full)
+    want_one_line(answer, "cannot write the answer")
 
 
-def front_killed(work: Path) -> None:
-    """If the front is killed, the others end, too."""
-    with Running(generated("pigeons 11", work), work) as running:
-        running.process.kill()
-        want(running.end().status, -signal.SIGKILL, "the end")
+@pytest.mark.parametrize("name", ["bmc.cnf", "assumed.cnf"], ids=["unsatisfiable", "satisfiable"])
+def test_a_closed_output(name: str) -> None:
+    done = in_shell('exec "$0" --lrupd "$1" "$2" >&-', SOLVE, PROGRAM, example(name))
+    want_one_line(Answer(done), "")
 
 
-def gives_way(work: Path) -> None:
-    """If memory is short, the system kills engines and filters first: their oom_score_adj is 1000,
-    the maximum, and nobody lowers it."""
-    own = of_process(os.getpid(), "oom_score_adj")
-    with Running(generated("pigeons 11", work), work) as running:
-        until("engines and filters give way",
-              lambda: {of_process(pid, "oom_score_adj") for name, pid in running.children.items()
-                       if name[:6] in ("engine", "filter")} == {"1000\n"})
-        found = [of_process(pid, "oom_score_adj")
-                 for pid in (running.process.pid, running.children["lrupd"])]
-        running.process.terminate()
-        running.end()
-    want(found, [own, own], "the numbers of the first process and lrupd")
-
-
-def time_is_up(work: Path) -> None:
-    formula, begin = generated("pigeons 11", work), time.monotonic()
-    answer = solve(["--time", "0.7", formula])
-    want_answer(answer, 0)
-    want(("time is up" in answer.comments, 0.7 <= time.monotonic() - begin < SOON), (True, True),
-         f"the messages\n{answer.out}")
-
-
-def full(words: List[str], out: str, most: int, cause: str, work: Path) -> None:
-    """The disk is full, so the answer or the streams can't be written."""
-    if not os.path.exists("/dev/full"):
-        pytest.skip("there is no /dev/full")
-    limit = lambda: resource.setrlimit(resource.RLIMIT_FSIZE, (most, most)) if most else None
-    with open(out, "w") as file:
-        answer = solve([*(word.format(work=work) for word in words), example("bmc.cnf")],
-                       stdout=file, preexec_fn=limit)
-    want((answer.status, answer.said.count("\n"), cause in answer.said), (1, 1, True),
-         f"the message: {answer.said}")
-
-
-def closed(formula: str, work: Path) -> None:
-    done = in_shell('exec "$0" --lrupd "$1" "$2" >&-', SOLVE, PROGRAM, example(formula))
-    want((done.status, done.err.count("\n")), (1, 1), f"the message: {done.err}")
-
-
-def reader_left(name: str, work: Path) -> None:
-    """If nobody can read the answer, the run soon ends without a message, as other programs do."""
+def want_to_end_without_a_reader(formula: Path) -> None:
+    """If nobody can read the answer, the run ends without a message, as other programs do."""
     reader, writer = os.pipe()
     os.close(reader)
-    formula = example(name) if name.endswith(".cnf") else generated(name, work)
     answer = solve([formula], stdout=writer, limit=60)
     os.close(writer)
-    want((answer.status, answer.said), (-signal.SIGPIPE, ""), "the end")
+    assert (answer.status, answer.said) == (-signal.SIGPIPE, "")
 
 
-def read_terminal(leader: int) -> bytes:
-    """What has been written so far."""
-    seen = b""
-    try:
-        while chunk := os.read(leader, 65536):
-            seen += chunk
-    except OSError:     # nothing more, or no writer
-        pass
-    return seen
+def test_an_answer_that_nobody_can_read() -> None:
+    want_to_end_without_a_reader(example("bmc.cnf"))
 
 
-def shown_on_terminal(words: List[str], count: int, columns: int, work: Path) -> Tuple[bytes, str]:
-    """What the terminal shows until the program's loop has taken some turns and `count` progress
-    lines have come; and standard output."""
-    leader, terminal = pty.openpty()
-    fcntl.ioctl(terminal, termios.TIOCSWINSZ, struct.pack("HHHH", 24, columns, 0, 0))
-    fcntl.fcntl(leader, fcntl.F_SETFL, os.O_NONBLOCK)
-    seen = bytearray()
+def test_nobody_could_read_an_answer(tmp_path: Path) -> None:
+    """The run ends long before it has one."""
+    want_to_end_without_a_reader(generated("pigeons 11", tmp_path))
 
-    def has_shown() -> bool:
-        seen.extend(read_terminal(leader))
-        return len(PROGRESS.findall(seen)) >= count
 
-    with started(command(["-j", "2", *words, generated("pigeons 11", work)]),
-                 stdout=subprocess.PIPE, stderr=terminal, text=True) as running:
-        os.close(terminal)
+# Terminals.
+
+
+PROGRESS = re.compile(rb"\r([^\r\n\x1b]* conflicts[^\r\n\x1b]*)\x1b\[K")
+
+
+class Terminal:
+    """A terminal, which a run has as its standard error."""
+
+    def __init__(self) -> None:
+        self.leader, self.end = pty.openpty()
+        fcntl.fcntl(self.leader, fcntl.F_SETFL, os.O_NONBLOCK)
+        self.text = b""
+
+    def shown(self) -> bytes:
+        """All that it has shown so far."""
+        with contextlib.suppress(OSError):     # nothing more, or no writer
+            while chunk := os.read(self.leader, 65536):
+                self.text += chunk
+        return self.text
+
+
+@pytest.fixture
+def terminal() -> Iterator[Terminal]:
+    terminal = Terminal()
+    yield terminal
+    os.close(terminal.leader)
+    os.close(terminal.end)
+
+
+def run_on(terminal: Terminal, options: List[str], count: int, work: Path) -> List[str]:
+    """Ends a run once its loop has taken some turns and it has shown `count` lines of progress;
+    returns the lines of its standard output."""
+    with started(command(["-j", "2", *options, generated("pigeons 11", work)]),
+                 stdout=subprocess.PIPE, stderr=terminal.end, text=True) as running:
         until("an engine is there",
               lambda: "engine 1" in children_of(running.pid) or running.poll() is not None)
         goes_on(running)
-        until(f"{count} lines of progress", lambda: has_shown() or running.poll() is not None)
+        until(f"{count} lines of progress",
+              lambda: len(PROGRESS.findall(terminal.shown())) >= count
+              or running.poll() is not None)
         running.terminate()
-        out = running.communicate(timeout=LIMIT)[0]
-    seen.extend(read_terminal(leader))
-    os.close(leader)
-    return bytes(seen), out
+        out: str = running.communicate(timeout=LIMIT)[0]
+    assert out.splitlines()[-1] == "s UNKNOWN"
+    return out.splitlines()
 
 
-def progress(words: List[str], wanted: bool, columns: int, work: Path) -> None:
+@pytest.mark.parametrize("options", [[], ["-v"]], ids=" ".join)
+@pytest.mark.parametrize("columns", [0, 30, 120])
+def test_progress(columns: int, options: List[str], terminal: Terminal, tmp_path: Path) -> None:
     """On a terminal, progress is one line within its columns, overwritten and finally removed."""
-    seen, out = shown_on_terminal(words, 3 * wanted, columns, work)
-    want(out.splitlines()[-1], "s UNKNOWN", "the answer")
-    shown, width = PROGRESS.findall(seen), (columns or 80) - 1
-    found = min(len(shown), 3), b"\n" in seen, not shown or seen.endswith(b"\r\x1b[K")
-    want(found, (3 * wanted, False, True), f"on the terminal: {seen[:300]!r}")
-    whole = [line for line in shown if len(line) == width or len(line) < width and columns != 30
-             and line.endswith(b" %")]
-    want(whole, shown, "lines within the columns")
-    hidden, lines = seen.count(b"\r\x1b[K"), sum(line.startswith("c ") for line in out.splitlines())
-    want(hidden <= lines + 1, True, f"{hidden} times the line was hidden, for {lines} lines")
+    fcntl.ioctl(terminal.end, termios.TIOCSWINSZ, struct.pack("HHHH", 24, columns, 0, 0))
+    lines = run_on(terminal, options, 3, tmp_path)
+    shown, progress = terminal.shown(), PROGRESS.findall(terminal.shown())
+    assert len(progress) >= 3
+    assert b"\n" not in shown
+    assert shown.endswith(b"\r\x1b[K")
+    width = (columns or 80) - 1
+    for line in progress:
+        is_cut_off = len(line) == width
+        assert is_cut_off or len(line) < width and columns != 30 and line.endswith(b" %")
+    comments = sum(line.startswith("c ") for line in lines)
+    assert shown.count(b"\r\x1b[K") <= comments + 1, "hidden more often than lines are printed"
 
 
-def large_formula(words: List[str], work: Path) -> None:
-    """While a large formula is read, a terminal shows that; a signal ends the run at once, and so
-    does --time."""
-    formula = work / "large"
-    with formula.open("w") as file:
+def test_no_progress(terminal: Terminal, tmp_path: Path) -> None:
+    run_on(terminal, ["-q"], 0, tmp_path)
+    assert terminal.shown() == b""
+
+
+def test_a_terminal_that_stops_background_processes(terminal: Terminal, tmp_path: Path) -> None:
+    """As after `stty tostop`, if they write to it; only the front is in the foreground."""
+    settings = termios.tcgetattr(terminal.end)
+    settings[3] |= termios.TOSTOP
+    termios.tcsetattr(terminal.end, termios.TCSANOW, settings)
+    answer = solve(["--time", "1", generated("pigeons 11", tmp_path)], stderr=terminal.end,
+                   start_new_session=True,
+                   preexec_fn=lambda: fcntl.ioctl(terminal.end, termios.TIOCSCTTY, 0))
+    assert "time is up" in answer.comments
+    assert PROGRESS.search(terminal.shown())
+
+
+@pytest.fixture
+def large_formula(tmp_path: Path) -> Path:
+    """A formula of 300 MB, nearly all of which are comments."""
+    path = tmp_path / "large"
+    with path.open("w") as file:
         file.write("p cnf 2 4\n")
         for _ in range(300):
             file.write(("c" + "x" * 98 + "\n") * 10000)
         file.write(FOUR.split("\n", 1)[1])
-    leader, terminal = pty.openpty()
-    fcntl.fcntl(leader, fcntl.F_SETFL, os.O_NONBLOCK)
-    seen = bytearray()
+    return path
 
-    def has_shown() -> bool:
-        seen.extend(read_terminal(leader))
-        return f"reading {formula} ..".encode() in seen
 
-    with started(command([*words, formula]), stdout=subprocess.PIPE, stderr=terminal,
+@pytest.mark.parametrize("options, number, why", [
+    pytest.param([], signal.SIGTERM, "ended by a signal: Terminated", id="a signal"),
+    pytest.param(["--time", "0.3"], 0, "time is up, but the formula hasn't been read yet",
+                 id="the time")])
+def test_ended_while_a_large_formula_is_read(options: List[str], number: int, why: str,
+                                             large_formula: Path, terminal: Terminal) -> None:
+    """A terminal shows that the formula is read; a signal ends the run at once, and so does
+    --time."""
+    reading = f"reading {large_formula} ..".encode()
+    with started(command([*options, large_formula]), stdout=subprocess.PIPE, stderr=terminal.end,
                  text=True) as running:
-        os.close(terminal)
-        until("that it is read", lambda: has_shown() or running.poll() is not None)
-        begun = time.monotonic()
-        if not words:
-            running.terminate()
+        until("that it is read",
+              lambda: reading in terminal.shown() or running.poll() is not None)
+        began = time.monotonic()
+        if number:
+            running.send_signal(number)
         out = running.communicate(timeout=LIMIT)[0]
-        lasts = time.monotonic() - begun
-    why = ("time is up, but the formula hasn't been read yet" if words
-           else "ended by a signal: Terminated")
-    want((out, running.returncode),
-         (f"c {why}\ns UNKNOWN\n", 0 if words else -signal.SIGTERM), "the end")
-    want(lasts < 4, True, f"whether it ended soon, after {lasts} seconds")
-    seen.extend(read_terminal(leader))
-    os.close(leader)
-    want(bytes(seen).endswith(b"\r\x1b[K"), True,
-         f"whether the line is erased: {bytes(seen)[-100:]!r}")
-
-
-def terminal_that_stops(work: Path) -> None:
-    """As after `stty tostop`: the terminal stops background processes that write to it; only the
-    front is in the foreground."""
-    leader, terminal = pty.openpty()
-    settings = termios.tcgetattr(terminal)
-    settings[3] |= termios.TOSTOP
-    termios.tcsetattr(terminal, termios.TCSANOW, settings)
-    fcntl.fcntl(leader, fcntl.F_SETFL, os.O_NONBLOCK)
-    answer = solve(["--time", "1", generated("pigeons 11", work)], stderr=terminal,
-                   start_new_session=True,
-                   preexec_fn=lambda: fcntl.ioctl(terminal, termios.TIOCSCTTY, 0))
-    os.close(terminal)
-    want(("time is up" in answer.comments, len(PROGRESS.findall(read_terminal(leader))) > 0),
-         (True, True), f"the comments\n{answer.out}")
-    os.close(leader)
+        lasted = time.monotonic() - began
+    assert (out, running.returncode) == (f"c {why}\ns UNKNOWN\n", -number)
+    assert lasted < 4
+    assert terminal.shown().endswith(b"\r\x1b[K"), "the line isn't erased"
 
 
 # Formulas by yosys.
 
 
-def miter(name: str, change: Optional[Tuple[str, str]], status: int, work: Path) -> None:
-    """Two circuits that are equal, or one of which is wrong."""
+def formula_by(script: Path, verilog: str, work: Path, *words: str) -> Path:
+    """The formula that a script of the examples makes of a circuit, in files whose names have
+    spaces."""
     needs("yosys")
-    text = (MITERS / f"{name}.v").read_text()
-    if change:
-        want(text.count(change[0]), 1, f"places of {change[0]}")
-        text = text.replace(*change)
     formula = work / "a formula.cnf"
-    made = run(["sh", MITERS / "miter.sh", written(text, work, "the circuits.v"), formula])
-    want(made.status, 0, f"{made.out}{made.err}the status of miter.sh")
+    made = run(["sh", script, written(verilog, work, "the circuits.v"), *words, formula])
+    assert made.status == 0, made.out + made.err
+    return formula
+
+
+def values_of(formula: Path, answer: Answer) -> List[Tuple[str, str]]:
+    """The names and values of the circuit's signals in a model, as show.awk lists them."""
+    said = run([EXAMPLES / "show.awk", formula, "-"], answer.out).out
+    return [(name, value) for line in said.splitlines() for name, value in [line.split(" = ")]]
+
+
+@pytest.mark.parametrize("name", ["adders", "multipliers", "sorters"])
+def test_equal_circuits(name: str, tmp_path: Path) -> None:
+    formula = formula_by(MITERS / "miter.sh", (MITERS / f"{name}.v").read_text(), tmp_path)
+    want_answer(solve([formula]), 20)
+
+
+@pytest.mark.parametrize("name, right, wrong", [
+    ("adders", "(a[k] & b[k]) |", "(a[k] | b[k]) &"), ("multipliers", " + row5", ""),
+    ("sorters", "exchange second(b,", "exchange second(a,")])
+def test_a_wrong_circuit(name: str, right: str, wrong: str, tmp_path: Path) -> None:
+    """In the model, an output differs from that of the right circuit."""
+    text = (MITERS / f"{name}.v").read_text()
+    assert text.count(right) == 1
+    formula = formula_by(MITERS / "miter.sh", text.replace(right, wrong), tmp_path)
     answer = solve([formula])
-    want_answer(answer, status, formula)
-    if status == 10:
-        said = run([EXAMPLES / "show.awk", formula, "-"], answer.out).out
-        values = dict(line.split(" = ") for line in said.splitlines())
-        outputs = set(re.findall(r"output (?:\[\S*\] )?(\w+)", text))
-        differ = [name for name in outputs if f"one.{name}" in values
-                  and values[f"one.{name}"] != values[f"other.{name}"]]
-        want(bool(differ), True, f"whether an output differs in\n{said}")
+    want_answer(answer, 10, formula)
+    values = dict(values_of(formula, answer))
+    outputs = set(re.findall(r"output (?:\[\S*\] )?(\w+)", text))
+    assert any(values[f"one.{name}"] != values[f"other.{name}"] for name in outputs
+               if f"one.{name}" in values), values
 
 
-def undefined(one: str, other: str, status: int, work: Path) -> None:
-    """A bit that is x, or has no driver, differs from any other bit."""
-    needs("yosys")
+def two_modules(one: str, other: str) -> str:
+    """Two circuits with these outputs, in which nothing drives the bit w."""
     ports = "(input a, output [1:0] z); wire w; assign z ="
-    text = f"module one{ports} {one}; endmodule\nmodule other{ports} {other}; endmodule\n"
-    formula = work / "formula.cnf"
-    made = run(["sh", MITERS / "miter.sh", written(text, work, "circuits.v"), formula])
-    want(made.status, 0, f"{made.out}{made.err}the status of miter.sh")
+    return f"module one{ports} {one}; endmodule\nmodule other{ports} {other}; endmodule\n"
+
+
+@pytest.mark.parametrize("one, other", [("2'bxx", "{2{a}}"), ("{2{a}}", "2'bxx"),
+                                        ("{a, w}", "{a, a}"), ("2'b1x", "{2{a}}")])
+def test_an_undefined_bit_differs_from_any_other(one: str, other: str, tmp_path: Path) -> None:
+    """A bit is undefined if it is x, or has no driver. The model names all signals."""
+    formula = formula_by(MITERS / "miter.sh", two_modules(one, other), tmp_path)
     answer = solve([formula])
-    want_answer(answer, status, formula)
-    if status == 10:
-        said = run([EXAMPLES / "show.awk", formula, "-"], answer.out).out
-        names = sorted(line.split(" = ")[0] for line in said.splitlines())
-        wires = [f"{name}.w" for name, bits in (("one", one), ("other", other)) if "w" in bits]
-        want(names, sorted(["a", *wires, "one.z", "other.z"]), f"the names in\n{said}")
+    want_answer(answer, 10, formula)
+    wires = [f"{name}.w" for name, bits in (("one", one), ("other", other)) if "w" in bits]
+    assert sorted(name for name, _ in values_of(formula, answer)) == sorted(
+        ["a", *wires, "one.z", "other.z"])
 
 
-def by_model_checking(work: Path) -> None:
-    """Names have spaces; the queue's seventh step is bad if the queue is never full."""
-    needs("yosys")
-    fifo = (EXAMPLES / "fifo" / "fifo.v").read_text()
-    file = written(fifo.replace("push && !full", "push"), work, "a fifo.v")
-    for depth, status in (("6", 20), ("7", 10)):
-        formula = work / f"depth {depth}.cnf"
-        made = run(["sh", EXAMPLES / "fifo" / "bmc.sh", file, depth, formula])
-        want(made.status, 0, f"{made.out}{made.err}the status of bmc.sh")
-        want_answer(solve([formula]), status, formula)
+def test_an_undefined_bit_on_which_no_output_depends(tmp_path: Path) -> None:
+    circuits = two_modules("{a, a & 1'bx & 1'b0}", "{a, 1'b0}")
+    want_answer(solve([formula_by(MITERS / "miter.sh", circuits, tmp_path)]), 20)
+
+
+@pytest.mark.parametrize("depth, status", [("6", 20), ("7", 10)])
+def test_bounded_model_checking_of_a_queue(depth: str, status: int, tmp_path: Path) -> None:
+    """The queue's seventh step is bad if the queue is never full."""
+    fifo = (EXAMPLES / "fifo" / "fifo.v").read_text().replace("push && !full", "push")
+    formula = formula_by(EXAMPLES / "fifo" / "bmc.sh", fifo, tmp_path, depth)
+    want_answer(solve([formula]), status, formula)
 
 
 # The documents.
 
 
-def options_listed(work: Path) -> None:
+def test_the_manuals_options() -> None:
     """--help and the manual page have the same options."""
     summary = solve(["--help"])
-    want((summary.said, summary.status), ("", 0), "the output of --help")
+    assert (summary.said, summary.status) == ("", 0)
     listed = re.findall(r"^  (?:(-\w), )?(--?[a-z-]+)", summary.out, re.M)
     tagged = re.findall(r"^\.It (Fl .*)$", (ROOT / "man" / "lrup-solve.1").read_text(), re.M)
     in_manual = {"-" + word for line in tagged for word in re.findall(r"Fl ([\w-]+)", line)}
-    want(in_manual, {word for pair in listed for word in pair if word},
-         "options of the manual page")
+    assert in_manual == {word for pair in listed for word in pair if word}
 
 
 # Rules of sharing.
 
 
-def shares(rule: str, found: str, variables: Tuple[int, int], early: str, work: Path) -> None:
+@pytest.mark.parametrize("rule, found, sizes, early", named([
+    ("witnesses", "guard", r"is lost: .*no conflict by unit propagation", (110, 160), ELIMINATING),
+    ("imports first", "order", r"is lost: its filter stopped: ", (60, 140), EARLY),
+    ("kept clauses", "keeping", r"bad line \d+ \(retired ", (60, 140), EARLY)]))
+def test_rules_of_sharing(rule: str, found: str, sizes: Tuple[int, int], early: str,
+                          tmp_path: Path) -> None:
     def formula(seed: int) -> Path:
         numbers = random.Random(seed)
-        size = numbers.randrange(*variables)
-        return written(dimacs(size, random_clauses(numbers, size,
-                                                   round(numbers.uniform(4, 4.9) * size))), work)
+        size = numbers.randrange(*sizes)
+        count = round(numbers.uniform(4, 4.9) * size)
+        return written(dimacs(size, random_clauses(numbers, size, count)), tmp_path)
     rests_on(rule, found, 300, formula, lambda _: {"SET": early, "SLICE": 30})
 
 
-def published_late(work: Path) -> None:
-    """The filter of engine 1 dies after giving away a clause that is still in its buffer: nobody
-    may have seen that clause."""
-    rests_on("flush", "missing", 120, lambda seed: generated(f"random 70 {seed}", work),
+def test_nobody_sees_a_clause_before_it_is_in_the_stream(tmp_path: Path) -> None:
+    """The filter of engine 1 dies after giving away a clause that is still in its buffer."""
+    rests_on("flush", "missing", 120, lambda seed: generated(f"random 70 {seed}", tmp_path),
              lambda seed: {"SLICE": 30, "LAST_GIFT": 20 + seed % 40})
-
-
-# The tests.
-
-
-def known() -> List[Row]:
-    many = ([["-j", str(engines)] for engines in (1, 2, 3, 5, 8)]
-            + [["-j", "3", "--no-share"], ["-v"], ["--share-size", "0"], []])
-    runs: List[Row] = []
-    for words in many:
-        title = " ".join(["", *words])
-        runs += [("four clauses" + title, answers, FOUR, 20, words),
-                 ("bmc" + title, answers_of, "bmc.cnf", 20, words),
-                 ("satisfiable" + title, answers_of, "random 120 7 3.6", 10, words),
-                 ("empty clause" + title, answers, "p cnf 2 2\n1 2 0\n0\n", 20, words),
-                 ("no clauses" + title, answers, "p cnf 3 0\n", 10, words),
-                 ("nothing" + title, answers, "p cnf 0 0\n", 10, words),
-                 ("the empty clause alone" + title, answers, "p cnf 0 1\n0\n", 20, words),
-                 ("units" + title, answers, "p cnf 2 3\n1 0\n-1 2 0\n-2 0\n", 20, words),
-                 ("tautologies" + title, answers,
-                  "p cnf 3 4\n1 -1 0\n2 2 3 0\n-2 3 3 0\n-3 -3 0\n", 20, words)]
-    runs += [("without a clause", without_a_clause),
-             ("four engines", answers_of, "random 200 2", 20, ["-j", "4"]),
-             ("pigeonholes", answers_of, "pigeons 7", 20, ["-j", "3"]),
-             ("an order", answers_of, "order 20", 20, ["-j", "2"]),
-             ("comments", answers,
-              "c a comment\n" + FOUR.replace("-1 2 0\n", "c another\n-1 2 0\n"), 20, [])]
-    return runs
-
-
-def what_happens() -> List[Row]:
-    kill, term = signal.SIGKILL, signal.SIGTERM
-    runs: List[Row] = [
-        ("lrupd killed", killed, ["lrupd"], kill, 0, "lrupd ended by a signal"),
-        ("engine 1 killed", killed, ["engine 1"], kill, 20, "engine 1 is lost"),
-        ("engine 2 killed", killed, ["engine 2"], term, 20, "engine 2 is lost"),
-        ("filter 1 killed", killed, ["filter 1"], kill, 20, "engine 1 is lost"),
-        ("filter 2 killed", killed, ["filter 2"], term, 20, "engine 2 is lost"),
-        ("an engine and a filter killed", killed, ["engine 1", "filter 2"], kill, 0,
-         "no engine is left"),
-        ("the front killed", front_killed), ("stopped", stopped),
-        ("ended while it is stopped", ended_while_stopped),
-        ("a terminal that stops", terminal_that_stops), ("a large formula", large_formula, []),
-        ("a large formula, and the time", large_formula, ["--time", "0.3"]),
-        ("who gives way", gives_way), ("time", time_is_up),
-        ("a full disk for streams", full, ["-j", "1", "--proofs", "{work}"], os.devnull, 4096,
-         "round-1.stream-1: File too large"),
-        ("a full disk for the answer", full, [], "/dev/full", 0, "cannot write the answer"),
-        ("a closed output", closed, "bmc.cnf"),
-        ("a closed output, satisfiable", closed, "assumed.cnf"),
-        ("a reader that left", reader_left, "bmc.cnf"),
-        ("a reader that left, pigeons 11", reader_left, "pigeons 11"),
-        ("no progress", progress, ["-q"], False, 80)]
-    runs += [(f"progress {words} {columns}", progress, words, True, columns)
-             for words in ([], ["-v"]) for columns in (0, 30, 120)]
-    runs += [(f"signal {number}, ignored", ignored, number)
-             for number in (signal.SIGHUP, signal.SIGINT)]
-    runs += [(f"signal {number}", ended_by, number)
-             for number in (signal.SIGINT, signal.SIGTERM, signal.SIGHUP)]
-    runs += [(f"{name} killed with a cube", killed_with_a_cube, name)
-             for name in ("engine 2", "engine 3", "filter 4")]
-    runs += [(f"cubes, {engines} engines, {words}", cubes, words, status, engines)
-             for engines in (3, 4, 6)
-             for words, status in (("random 200 2", 20), ("pigeons 8", 20), ("order 20", 20),
-                                   ("random 260 3 4.1", 10))]
-    untaken = "lrupd (hasn't accepted the proof|ended with status 3)"
-    for body, cause in (("exit 3", untaken), ("exit 6", "ended with status 6"),
-                        ("exit 10", "ended with status 10"),
-                        ("echo s UNSATISFIABLE; exit 3", untaken),
-                        ("kill -9 $$", "ended by a signal"),
-                        ("echo 'c stream 1: 0 added, 0 deleted, bad line 1 (missing 555)'; echo s "
-                         "UNKNOWN; exit 3",
-                         "missing 555")):
-        runs.append((f"another lrupd: {body}", impostor, body, cause))
-    return runs
-
-
-def others_formulas() -> List[Row]:
-    return [("miter of adders", miter, "adders", None, 20),
-            ("of multipliers", miter, "multipliers", None, 20),
-            ("of sorters", miter, "sorters", None, 20),
-            ("of adders, one wrong", miter, "adders", ("(a[k] & b[k]) |", "(a[k] | b[k]) &"), 10),
-            ("of multipliers, one wrong", miter, "multipliers", (" + row5", ""), 10),
-            ("of sorters, one wrong", miter, "sorters",
-             ("exchange second(b,", "exchange second(a,"), 10),
-            *((f"undefined, {one} and {other}", undefined, one, other, status)
-              for one, other, status in (("2'bxx", "{2{a}}", 10), ("{2{a}}", "2'bxx", 10),
-                                         ("{a, w}", "{a, a}", 10), ("2'b1x", "{2{a}}", 10),
-                                         ("{a, a & 1'bx & 1'b0}", "{a, 1'b0}", 20))),
-            ("bounded model checking", by_model_checking), ("options listed", options_listed)]
-
-
-def searches() -> List[Row]:
-    return ([("as many holes as pigeons", holes)]
-            + [(f"as alone, {words} {seed}", as_alone, words, seed) for seed in (0, 1, 2)
-               for words in ("order 20", "pigeons 7", "random 150 1", "random 150 7 3.6")])
-
-
-def sharing() -> List[Row]:
-    lost = r"is lost: .*no conflict by unit propagation"
-    return [("witnesses", shares, "guard", lost, (110, 160), ELIMINATING),
-            ("imports first", shares, "order", r"is lost: its filter stopped: ", (60, 140), EARLY),
-            ("kept clauses", shares, "keeping", r"bad line \d+ \(retired ", (60, 140), EARLY),
-            ("published late", published_late)]
-
-
-def rows() -> List[Row]:
-    runs = known() + searches() + what_happens() + others_formulas() + sharing()
-    runs += [(f"random with cubes {seed}", randomly_cubed, seed) for seed in range(100)]
-    return runs + [(f"random {seed}", randomly, seed) for seed in range(300)]
-
-
-pytestmark = FOR_TESTS
-test_row = parametrized(rows())

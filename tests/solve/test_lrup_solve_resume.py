@@ -13,14 +13,15 @@ import signal
 import subprocess
 import time
 from pathlib import Path
-from typing import Callable, List, Mapping, Optional, Sequence
+from typing import Callable, Mapping, Optional, Sequence
 
 import pytest
 
-from harness import (COUNT, FOUR, LIMIT, PROGRAM, ROOT, SUPPORT, Ran, compiled, dimacs, generated,
-                     named, needs, random_clauses, run, started, until, written)
+from harness import (COUNT, FOUR, LIMIT, PROGRAM, ROOT, Ran, dimacs, generated, named, needs,
+                     random_clauses, run, started, until, written)
 from records import (CHANGES, UNKNOWN, checkpoints, recorded, saved_rounds, want_no_other,
                      way_on, whole, with_digests)
+from refused import refusing
 from solving import (ANSWERS, EARLY, SOLVE, TESTED, Answer, before_lrupd, check_again, children_of,
                      command, end_all, end_group, in_environment, listed, marked, none_left, solve,
                      want_answer)
@@ -587,9 +588,7 @@ def test_not_on_disk(tmp_path: Path) -> None:
     recorded(["-j", "1", formula], kept, 2, SMALL)
     rounds, names = saved_rounds(kept), [f"checkpoint-{saved_rounds(kept)}.cnf", "rounds.sha256"]
     before = {name: (kept / name).read_bytes() for name in names}
-    shim = compiled(tmp_path / "refuse.so", [SUPPORT / "refuse.c"], "-std=gnu11", "-O2", "-shared",
-                    "-fPIC")
-    engines = written(f"#!/bin/sh\nexport LD_PRELOAD={shim} REFUSE=sync:1:EIO MARK={mark}\n"
+    engines = written(f"#!/bin/sh\nexport LD_PRELOAD={refusing()} REFUSE=sync:1:EIO MARK={mark}\n"
                       f"exec {TESTED.with_name('lrup-engines')} \"$@\"\n", tmp_path, "engines")
     engines.chmod(0o755)
     answer = solve(["--engines", engines, "-j", "1", "--time", "4", "--resume", kept, formula],

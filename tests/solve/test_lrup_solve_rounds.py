@@ -23,7 +23,7 @@ from harness import (LIMIT, LRUP_RECHECK, PROGRAM, Ran, dimacs, example, generat
                      named, random_clauses, run, until, written)
 from solving import (EARLY, Answer, check_again, children_of, command, end_group, in_environment,
                      in_place_of_lrupd, is_alive, kill_children, of_process, random_formula,
-                     rests_on, sleep, solve, want_answer)
+                     rests_on, says, sleep, solve, want_answer, want_cause)
 
 pytestmark = pytest.mark.usefixtures("solve_for_tests")
 # lrupd may have saved by the time when it is stopped.
@@ -289,14 +289,6 @@ class Running:
         until("its children end", lambda: not any(map(is_alive, self.children.values())))
         until("its files are removed", lambda: not os.listdir(self.folder))
         return Answer(Ran(out, said, self.process.returncode))
-
-
-def says(answer: Answer, cause: str) -> bool:
-    return any(re.search(cause, line) for line in answer.comments)
-
-
-def want_cause(answer: Answer, cause: str) -> None:
-    assert says(answer, cause), f"expected a message on '{cause}', but found\n{answer.out}"
 
 
 def kill(words: Sequence[object], number: int, pause: bool, first_words: int, names: List[str],

@@ -1,14 +1,16 @@
 """The permitted answers of the program when a system call is refused, and `Machine`, which runs the
 program with one call refused."""
+import functools
 import itertools
 import os
 import re
 import subprocess
 import time
 from pathlib import Path
-from typing import Dict, Iterator, List, NamedTuple, Optional, Sequence, Set, Tuple, Union
+from typing import Dict, Iterator, List, Mapping, NamedTuple, Optional, Sequence, Set, Tuple, Union
 
-from harness import EXAMPLES, FOUR, SUPPORT, Words, compiled, run, written
+from harness import (BUILDS, EXAMPLES, FOUR, SUPPORT, Words, alone, compiled, is_newer, run,
+                     written)
 from rounds import Proof, fault, last, round_files, saved_name, stream_name
 
 Saved = Union[None, str, Tuple[Optional[str], ...]]
@@ -46,39 +48,36 @@ LATE = 50  # milliseconds before a thread begins, in runs where another thread i
 
 
 class Input:
-    """Arguments, which end with the streams, and answers that are also permitted when something is
-    refused."""
+    """Arguments, which end with the streams; the texts of files that they name, which are in the
+    run's folder; and answers that are also permitted when something is refused."""
 
     def __init__(self, name: str, words: Words, streams: int = 0, dropped: Sequence[Answer] = (),
-                 waits: bool = False, out: Optional[str] = None) -> None:
+                 waits: bool = False, out: Optional[str] = None,
+                 files: Mapping[str, str] = {}) -> None:
         self.name, self.words, self.streams, self.out = name, list(map(str, words)), streams, out
+        self.files = files
         self.dropped = dropped  # answers if the set of dropped identities can't grow
         self.waits = waits  # for a minute, if a stream that others cite fails
         self.assumes = "--assume" in self.words
-        self.checkpoint = (Path(self.words[self.words.index("--checkpoint") + 1])
-                           if "--checkpoint" in self.words else None)
-        self.created = "" if self.checkpoint else None  # the checkpoint before anything is saved
+        self.has_checkpoint = "--checkpoint" in self.words
+        self.created = "" if self.has_checkpoint else None  # before anything is saved
 
 
 class InRounds(Input):
     """A run in rounds, with each round's sizes in a file."""
 
-    def __init__(self, name: str, options: Sequence[str], proof: Proof, work: Path) -> None:
-        self.proof, self.count, self.folder = proof, len(proof.texts), work / "d"
-        work.mkdir()
-        for number, texts in enumerate(proof.texts, 1):
-            written(f"{len(texts)} 100 100\n", work, f"d/round-{number}.sizes")
-        for path, text in round_files(proof.texts).items():
-            written(text, work, path)
-        streams = [work / stream_name(1, stream) for stream in range(1, len(proof.texts[0]) + 1)]
-        words = ["--lines", "100", "--room", "100", *options, "--rounds", self.folder,
-                 FOUR_CLAUSE, *streams]
-        super().__init__(name, words, len(streams))
+    def __init__(self, name: str, options: Sequence[str], proof: Proof) -> None:
+        self.proof, self.count = proof, len(proof.texts)
+        sizes = {f"d/round-{number}.sizes": f"{len(texts)} 100 100\n"
+                 for number, texts in enumerate(proof.texts, 1)}
+        streams = [stream_name(1, stream) for stream in range(1, len(proof.texts[0]) + 1)]
+        words = ["--lines", "100", "--room", "100", *options, "--rounds", "d", FOUR_CLAUSE,
+                 *streams]
+        super().__init__(name, words, len(streams), files={**sizes, **round_files(proof.texts)})
         self.status = 3 if proof.saved[-1] else 0
         self.reports = [last(number, said, 3) for number, said in enumerate(proof.said[:-1], 1)]
         self.reports.append(last(self.count, proof.said[-1], self.status))
         self.reached = self.count + (self.status == 3)  # the last round that opens a file
-        self.singles = work / "saved"
         self.watch_lines = 0
         if "--watch" in options:
             self.watch_lines = sum(map(len, proof.texts)) + self.count - 1
@@ -108,40 +107,52 @@ class InRounds(Input):
 MOST_SAVED = 4  # the number of checkpoints to look for after a run in rounds
 
 
-def places_of(words: Sequence[str]) -> List[Path]:
+def places_of(words: Sequence[str]) -> List[str]:
     """The paths at which something may be saved."""
     if "--rounds" in words:
-        folder = Path(words[words.index("--rounds") + 1])
-        return [folder.parent / saved_name(number) for number in range(2, 2 + MOST_SAVED)]
-    return [Path(words[words.index("--checkpoint") + 1])] if "--checkpoint" in words else []
+        return [saved_name(number) for number in range(2, 2 + MOST_SAVED)]
+    return [words[words.index("--checkpoint") + 1]] if "--checkpoint" in words else []
+
+
+@functools.lru_cache(maxsize=None)
+def refusing() -> Path:
+    """refuse.c, which the loader puts before the C library."""
+    source, library = SUPPORT / "refuse.c", BUILDS / "refuse.so"
+    with alone(BUILDS / "refuse.lock"):
+        if not is_newer(library, [source]):
+            compiled(library, [source], "-std=gnu11", "-O2", "-shared", "-fPIC")
+    return library
 
 
 class Machine:
-    """Runs the program, with one call refused."""
+    """Runs the program in a folder, with one call refused."""
 
     def __init__(self, program: str, folder: Path, late: int = LATE) -> None:
-        self.program, self.mark, self.stump, self.late = (program, folder / "mark",
-                                                          folder / "stump", late)
-        self.shim = compiled(folder / "refuse.so", [SUPPORT / "refuse.c"], "-std=gnu11", "-O2",
-                             "-shared", "-fPIC")
+        self.program, self.folder, self.late = program, folder, late
+        self.mark, self.stump = folder / "mark", folder / "stump"
         self.ends: Dict[Tuple[str, int, int, str], Answer] = {}
+
+    def lay(self, given: Input) -> None:
+        """Writes the input's files."""
+        for name, text in given.files.items():
+            written(text, self.folder, name)
 
     def run(self, words: Sequence[str], refuse: str = "", out: Optional[str] = None,
             limit: float = HANGS) -> Tuple[Answer, bool, float]:
         """The answer, whether a call was refused, and how many seconds the run took. Lines of
         `--watch` are compared with the report, and left out of the answer if they agree."""
-        checkpoints = places_of(words)
+        checkpoints = [self.folder / name for name in places_of(words)]
         for path in [self.mark, *checkpoints]:
             if path.is_file():
                 path.unlink()
-        surroundings = {"LD_PRELOAD": str(self.shim), "REFUSE": refuse, "MARK": str(self.mark),
+        surroundings = {"LD_PRELOAD": str(refusing()), "REFUSE": refuse, "MARK": str(self.mark),
                         "PATH": os.environ["PATH"],
                         "LATE": str(self.late if refuse.startswith("thread") else 0)}
         began = time.monotonic()
         with open(out or os.devnull, "wb") as full:
             try:
                 where = full if out else subprocess.PIPE
-                answer = Answer(*run([self.program, *words], limit=limit,
+                answer = Answer(*run([self.program, *words], limit=limit, cwd=self.folder,
                                      env=surroundings, stdout=where))
             except subprocess.TimeoutExpired:
                 answer = Answer("", f"no end in {limit} seconds", None)
@@ -171,8 +182,8 @@ class Machine:
         line."""
         if (given.name, number, line, cause) not in self.ends:
             words, place = list(given.words), number - 1 - given.streams
-            before = Path(words[place]).read_bytes().splitlines(keepends=True)[:line - 1]
-            self.stump.write_bytes(b"".join(before))
+            before = (self.folder / words[place]).read_bytes().splitlines(keepends=True)
+            self.stump.write_bytes(b"".join(before[:line - 1]))
             words[place] = str(self.stump)
             answer, _, _ = self.run(words)
             ended = rf"(c stream {number}: .*), ended\n"
@@ -243,7 +254,7 @@ def openings(given: Input) -> List[Answer]:
 
 
 def is_unopened(answer: Answer, given: Input) -> bool:
-    return answer in openings(given) or answer == NOT_CREATED and given.checkpoint is not None
+    return answer in openings(given) or answer == NOT_CREATED and given.has_checkpoint
 
 
 def not_started(number: int, saved: Optional[str] = None) -> Answer:
@@ -270,8 +281,8 @@ def calls(kind: str, ample: Answer, given: Input) -> int:
         return (watching(ample, given)
                 + (2 * given.streams if "--serial" not in given.words and goes_on else 0))
     if kind == "create":
-        return int(given.checkpoint is not None and (goes_on or ample == NOT_CREATED))
-    return int(given.checkpoint is not None and bool(ample.saved))
+        return int(given.has_checkpoint and (goes_on or ample == NOT_CREATED))
+    return int(given.has_checkpoint and bool(ample.saved))
 
 
 def watching(ample: Answer, given: Input) -> int:
@@ -422,12 +433,11 @@ def is_failed_stream(answer: Answer, cause: str, given: InRounds, machine: Machi
     if len(failed) != 1 or number > given.count:
         return False
     stream, line = map(int, failed[0])
-    formula = written([FOUR, *given.proof.saved][number - 1], given.folder.parent,
+    formula = written([FOUR, *given.proof.saved][number - 1], machine.folder,
                       "formula of the round")
-    streams = [given.folder.parent / stream_name(number, other)
-               for other in range(1, given.streams + 1)]
+    streams = [stream_name(number, other) for other in range(1, given.streams + 1)]
     place = given.words.index("--rounds")
-    words = [*given.words[:place], "--checkpoint", given.singles, formula, *streams]
+    words = [*given.words[:place], "--checkpoint", "saved", formula, *streams]
     alone = machine.answer_without(
         Input(f"{given.name}, round {number} alone", words, given.streams), stream, line, cause)
     out = f"c round {number}\n" * (number > 1) + alone.out

@@ -106,6 +106,15 @@ def want_answer(answer: Answer, status: int, formula: Optional[Path] = None,
         assert true & set(clause), f"the assignment makes the clause {clause} false"
 
 
+def says(answer: Answer, cause: str) -> bool:
+    """Whether a comment has this pattern."""
+    return any(re.search(cause, line) for line in answer.comments)
+
+
+def want_cause(answer: Answer, cause: str) -> None:
+    assert says(answer, cause), f"expected a message on '{cause}', but found\n{answer.out}"
+
+
 def random_formula(seed: int) -> str:
     numbers = random.Random(seed)
     variables = numbers.randrange(20, 130)
