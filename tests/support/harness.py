@@ -69,7 +69,6 @@ if signal.getsignal(signal.SIGHUP) == signal.SIG_IGN:
     signal.signal(signal.SIGHUP, lambda *_: None)
 
 Words = Iterable[object]
-Row = Tuple[Any, ...]
 Pieces = Iterable[Union[bytes, float]]
 
 
@@ -78,11 +77,6 @@ class Ran(NamedTuple):
     out: str
     err: str
     status: int
-
-
-def want(found: Any, wanted: Any, what: str) -> None:
-    __tracebackhide__ = True
-    assert found == wanted, what
 
 
 # Running programs.
@@ -494,28 +488,6 @@ def need_much_memory() -> None:
     available = re.search(r"^MemAvailable: +(\d+)", Path("/proc/meminfo").read_text(), re.M)
     if not available or int(available[1]) < 4_000_000:
         pytest.skip("less than 4 GB are free")
-
-
-# Rows.
-
-
-def with_memory(function: Callable[..., None], *arguments: Any) -> None:
-    """Runs a row that takes up to 2 GB, if enough memory is free."""
-    need_much_memory()
-    function(*arguments)
-
-
-def parametrized(rows: Iterable[Row], marks: Mapping[Callable[..., None], pytest.MarkDecorator]
-                 = {}) -> Callable[[Row, Path], None]:
-    """A test that pytest runs for each row, with the mark of the row's function."""
-    params = [pytest.param(row, id=row[0], marks=marks.get(row[1], [])) for row in rows]
-
-    @pytest.mark.parametrize("row", params)
-    def test(row: Row, work: Path) -> None:
-        __tracebackhide__ = True
-        _, function, *arguments = row
-        function(*arguments, work)
-    return test
 
 
 # A mark for rows that are run again if they time out, since other rows may slow them down.

@@ -324,7 +324,6 @@ def built(target: str, for_tests: bool) -> None:
             assert not status and not re.search(r"warning: .*\[-W", err), out + err
 
 
-# Marks for files whose rows need the first build, or both builds. A row may fail twice, since
-# solvers race with each other and with signals.
-LRUP_SOLVE = [pytest.mark.usefixtures("lrup_solve"), pytest.mark.flaky(reruns=2)]
+# The marks of a file whose tests need both builds. A test may fail twice, since solvers race with
+# each other and with signals.
 FOR_TESTS = [pytest.mark.usefixtures("solve_for_tests"), pytest.mark.flaky(reruns=2)]
