@@ -47,7 +47,7 @@ OPTIONS ?= --tries 1000000
 
 .PHONY: run build install built no-trim no-solve uninstall examples live checkpoints \
 	rounds demo solver exact trim explain solve solve-mpi scripts tools solver-test filter-test \
-	trim-test building peers hol explain-test solve-test days neighbours sweep leaks \
+	trim-test building peers hol explain-test solve-test days attack neighbours sweep leaks \
 	instructions quotes promises pages test gate toolchain c-and-python libcadical libmd mpicxx \
 	help try deb dist quick edits night packages types warnings builds shown quotes-test pytest rows \
 	unmarked
@@ -282,11 +282,15 @@ trim-test explain-test solve-test shown quotes-test builds rows: $(BUILT) tools 
 unmarked: $(BUILT) pytest ## check: lrup-solve's front without each statement that isn't marked as trusted, in some hours
 	@python3 gate/tests.py --program $(PROGRAM) --pytest '$(PYTEST)' lrup_solve_trusted -- -m nightly
 
-# Uses larger formulas than the gate does. SEED determines the formulas, and is printed.
+# `days` uses larger formulas than the gate does. SEED, which is printed, determines what is tried.
 MINUTES ?= 60
 SEED ?= $(shell date +%s)
 days: $(BUILT) exact pytest ## check: kill processes of lrup-solve for MINUTES=60, and resume from what they saved
 	@echo "seed $(SEED)" && $(PYTEST) tests/solve/test_lrup_solve_days.py -vv --program $(PROGRAM) \
+	--seed $(SEED) --minutes $(MINUTES)
+
+attack: $(BUILT) exact pytest ## check: random words, names, hostile programs and failing calls for lrup-solve and lrup-check, for MINUTES=60
+	@echo "seed $(SEED)" && $(PYTEST) tests/solve/test_lrup_solve_attack.py --program $(PROGRAM) \
 	--seed $(SEED) --minutes $(MINUTES)
 
 building: toolchain ## measure: the first build, crate by crate, in a clone of HEAD; on a quiet machine without kept proofs

@@ -108,6 +108,7 @@ STEPS = (
     Step("thread", 90, [], sanitized("thread")),
     Step("edits", 120, [], "make edits"),
     Step("days", 90, [], "make days"),
+    Step("attack", 90, ["strace"], "make attack"),
     Step("unmarked", 480, [], "make unmarked"),
 )
 

@@ -2,6 +2,7 @@
 import os
 import sys
 import tempfile
+import time
 from pathlib import Path
 from typing import Any, Generator, Iterator, List, Optional, Tuple, Union
 
@@ -27,8 +28,9 @@ def pytest_addoption(parser: pytest.Parser) -> None:
     given.addoption("--count", type=int, help="how many seeds a random test has, or how many "
                     "mutants a file")
     given.addoption("--first", type=int, default=0, help="the first mutant of a proof")
-    given.addoption("--seed", type=int, default=1, help="the seed of test_lrup_solve_days")
-    given.addoption("--minutes", type=float, default=0, help="how long test_lrup_solve_days lasts")
+    given.addoption("--seed", type=int, default=1,
+                    help="the first seed of test_lrup_solve_days and test_lrup_solve_attack")
+    given.addoption("--minutes", type=float, default=0, help="how long these two last")
 
 
 def pytest_configure(config: pytest.Config) -> None:
@@ -45,6 +47,16 @@ def pytest_generate_tests(metafunc: pytest.Metafunc) -> None:
     if mark:
         count = metafunc.config.getoption("count")
         metafunc.parametrize("seed", range(mark.args[0] if count is None else count))
+
+
+@pytest.fixture
+def in_time(request: pytest.FixtureRequest) -> None:
+    """With --minutes, no test but the first begins after that time."""
+    session, minutes = request.session, harness.MINUTES
+    is_first = request.node is session.items[0]
+    if minutes and not is_first and time.monotonic() > harness.BEGUN + 60 * minutes:
+        session.shouldstop = f"{minutes} minutes have passed"
+        pytest.skip(f"{minutes} minutes have passed")
 
 
 Reported = Generator[None, Any, None]

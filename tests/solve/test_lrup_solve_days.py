@@ -18,7 +18,6 @@ import random
 import shutil
 import signal
 import subprocess
-import time
 from pathlib import Path
 from typing import Callable, Dict, Iterator, List, Optional, Tuple
 
@@ -31,8 +30,7 @@ from records import CHANGES, UNKNOWN, saved_rounds, want_no_other, whole
 from solving import (ANSWERS, EARLY, Answer, command, in_environment, is_alive, marked,
                      none_left, of_process, processes_of_run, solve, want_answer)
 
-pytestmark = pytest.mark.usefixtures("solve_for_tests")
-END = time.monotonic() + 60 * MINUTES
+pytestmark = pytest.mark.usefixtures("solve_for_tests", "in_time")
 SIZE = 1 if MINUTES else 0
 RUNS = 100      # of one formula, at most
 SOON = 10       # seconds after which files have to be removed
@@ -311,14 +309,6 @@ SEEDS = range(SEED, SEED + 1 + int(60 * MINUTES))
 WAYS: Dict[str, Callable[[int, Path], None]] = {
     **{kind: functools.partial(solved, kind) for kind in KINDS if kind != "fewer pigeons"},
     "a full disk": on_disks, "small files": in_small_files}
-
-
-@pytest.fixture(autouse=True)
-def in_time(request: pytest.FixtureRequest) -> None:
-    """With --minutes, no test begins after that time."""
-    if MINUTES and time.monotonic() > END:
-        request.session.shouldstop = f"{MINUTES} minutes have passed"
-        pytest.skip(f"{MINUTES} minutes have passed")
 
 
 @pytest.mark.parametrize("way", WAYS)

@@ -50,6 +50,7 @@ USUAL_FLAGS = "-O2"
 PROGRAM, MODEL, FLAGS = "", "", USUAL_FLAGS
 COUNT: Optional[int] = None
 FIRST, SEED, MINUTES = 0, 1, 0.0
+BEGUN = time.monotonic()
 RT: Optional[str] = None
 LIMIT = 300  # seconds after which a run counts as hanging, even on a slow and busy machine
 FOUR = "p cnf 2 4\n1 2 0\n-1 2 0\n1 -2 0\n-1 -2 0\n"
