@@ -71,7 +71,7 @@ static _Noreturn void leave(const char *cause) {
 }
 
 static void note_windows(uint64_t whole) {
-    engine_status->written[whole % WINDOWS_AHEAD] =
+    engine_status->written[whole % WINDOWS_NOTED] =
         (Written){ engine_status->bytes, filter.other_hints };
     STORE(engine_status->windows, whole);
 }
@@ -303,8 +303,8 @@ static void pass_windows(void) {
     if (window <= own_window) return;
     end_window();
     tell(&engine_status->window, own_window += own->filters);
-    uint64_t ahead = engine_status->windows + 2;
-    if (ahead > WINDOWS_AHEAD) await(&engine_status->released, ahead - WINDOWS_AHEAD);
+    uint64_t whole = engine_status->windows;
+    if (whole > WINDOWS_AHEAD) await(&engine_status->released, whole - WINDOWS_AHEAD);
 }
 
 // Whether the round has room for this step's addition, and for the clause that ends the round.

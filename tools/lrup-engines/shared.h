@@ -17,7 +17,9 @@
 #include "test_hooks.h"
 
 enum { MOST_ENGINES = 64, LONGEST_CAUSE = 320, LONGEST_PATH = 4096 };
-enum { WINDOWS_AHEAD = 64 };  // a filter has fewer whole windows that lrupd doesn't get yet
+// A filter waits once it has this many whole windows that lrupd doesn't get yet. If the proof has been
+// stopped meanwhile, it doesn't wait, but then has at most one more.
+enum { WINDOWS_AHEAD = 60, WINDOWS_NOTED = 64 };
 // variables that cubes are made of; literals of one cube
 enum { VARIABLES_OF_CUBES = 64, MOST_OF_A_CUBE = 20 };
 
@@ -66,10 +68,10 @@ typedef struct {
     uint64_t last;          // the identity of its stream's last line
     // Of a filter that shares its proof with others: its first window that isn't whole, counted
     // from 0 in each round, or NO_WINDOW; how many of its windows are whole, and what they have in
-    // all, by their number modulo WINDOWS_AHEAD; the additions before the step at which it stopped,
+    // all, by their number modulo WINDOWS_NOTED; the additions before the step at which it stopped,
     // or NO_STOP; whether one filter has to take the whole proof.
     uint64_t window, windows;
-    Written written[WINDOWS_AHEAD];
+    Written written[WINDOWS_NOTED];
     uint64_t stopped_at;
     int needs_one;
     int refuted;                 // its stream has the line that proves the goal

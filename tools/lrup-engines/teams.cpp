@@ -489,7 +489,7 @@ Written Teams::written_of(size_t k) const {
     Written all = { LOAD(facts.bytes), LOAD(facts.other_hints) };
     uint64_t whole = whole_windows();
     bool is_next = !has_windows() || whole == LOAD(facts.window);
-    Written found = is_next ? all : facts.written[windows_among(whole, k) % WINDOWS_AHEAD];
+    Written found = is_next ? all : facts.written[windows_among(whole, k) % WINDOWS_NOTED];
     found.bytes = std::min(found.bytes, list[k].most_fed);
     return found;
 }
