@@ -411,6 +411,15 @@ void Rounds::end_round(bool full) {
     teams.go_on();
 }
 
+// Call once all filters of the proof have ended.
+void Rounds::leave_to_one(size_t k) {
+    bool has_ended = state == SAVING || (state == ENDING && teams.have_ended(k, number));
+    if (has_ended)
+        teams.awaits_one = true;
+    else
+        teams.start_alone(k, number);
+}
+
 // lrupd has saved the round: filters take the new identities, and meanwhile lrupd begins the next
 // round.
 std::string Rounds::map_round() {
@@ -447,6 +456,7 @@ void Rounds::begin_round() {
     teams.open_streams(number);
     keep_sizes();
     checker.begin_round(rows.row, teams.stream_files());
+    if (teams.awaits_one) teams.start_alone(0, number);
 }
 
 void Rounds::go_on() {

@@ -505,6 +505,18 @@ void Teams::release() {
     }
 }
 
+bool Teams::has_died(size_t k) const {
+    const size_t found = decider(k);
+    return has_windows() && list[found].filter.ended() && !list[found].filter.ended_with(0) &&
+           LOAD(engine_status(found).stopped_at) == NO_STOP;
+}
+
+bool Teams::have_ended(size_t k, uint64_t round) const {
+    for (size_t n = first_of(k); n < first_of(k) + filters(); n++)
+        if (LOAD(engine_status(n).ended_round) != round) return false;
+    return true;
+}
+
 bool Teams::can_restart(size_t k) const {
     return is_read_again(proof_of(k)) && !LOAD(engine_status(k).spilled);
 }
@@ -524,6 +536,7 @@ void Teams::start_alone(size_t k, uint64_t round) {
     list[k].most_fed = UINT64_MAX;
     if (is_new) facts.last = facts.round_lines = facts.round_literals = 0;
     is_alone = true;
+    awaits_one = false;
     cut_stream(k, facts.bytes);
     list[k].engine.signal(SIGKILL);
     wait_for(list[k].engine);
@@ -534,8 +547,13 @@ void Teams::start_alone(size_t k, uint64_t round) {
     start_team(k, round);
 }
 
-void Teams::end_filters(size_t k) {
-    for (size_t n = first_of(k); n < first_of(k) + filters(); n++) list[n].filter.signal(SIGKILL);
+bool Teams::end_filters(size_t k) {
+    bool all_ended = true;
+    for (size_t n = first_of(k); n < first_of(k) + filters(); n++) {
+        list[n].filter.signal(SIGKILL);
+        all_ended &= !list[n].filter.running;
+    }
+    return all_ended;
 }
 
 // Streams.
@@ -556,7 +574,7 @@ std::vector<int> Teams::stream_files() const {
 void Teams::number_streams() {
     uint64_t count = 0;
     for (size_t k = 0; k < list.size(); k++) {
-        bool goes_on = list[k].filter.running && k + 1 != shared->leaving;
+        bool goes_on = awaits_one ? k == 0 : list[k].filter.running && k + 1 != shared->leaving;
         STORE(engine_status(k).stream, goes_on ? ++count : 0);
     }
     STORE(shared->streams, count);

@@ -83,10 +83,15 @@ class Teams {
     void tell_fed(size_t k, uint64_t bytes) const;
     Written written_of(size_t k) const;  // what counts of it
     void release();                      // windows of filters that share a proof, to lrupd
+    // whether one of several filters of the proof was killed, perhaps since memory is short
+    bool has_died(size_t k) const;
     bool can_restart(size_t k) const;
-    // the proof's first filter, which then takes the whole proof
+    // the proof's first filter, which then takes the whole proof: now, or once `awaits_one` is set
+    // in the next round
     void start_alone(size_t k, uint64_t round);
-    void end_filters(size_t k);  // of this proof
+    bool awaits_one = false;
+    bool end_filters(size_t k);  // of this proof; true once they have ended
+    bool have_ended(size_t k, uint64_t round) const;  // this round's streams of the proof
     uint64_t clauses = 0;        // of the round's formula
 
     std::string lost;                     // why the record is incomplete; empty: it isn't
