@@ -43,7 +43,10 @@ typedef struct {
     uint64_t conflicts, slices, taken, refused, satisfied;
     int group;            // the process group of a user's solver, until that has ended
     int unfounded;        // it says 10 without an assignment
-    uint64_t proof_read;  // bytes of an existing proof
+    // what copies a proof to its filters: bytes that it has copied; of a proof that comes only once,
+    // bytes that it has kept so far, and whether it keeps no more
+    uint64_t proof_read, proof_kept;
+    int proof_unkept;
     // the end of a solver's standard error, or why a proof can't be read; read it once the engine
     // has ended
     char last_words[LONGEST_CAUSE];

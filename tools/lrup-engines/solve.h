@@ -134,7 +134,8 @@ std::string unfinished(const std::string &path);   // the name until the file is
 void check_input(const std::string &path);         // refuses what can't be read
 // whether other processes can open it, as often as they like
 bool is_read_again(const std::string &path);
-int open_if_possible(const std::string &path);  // an input; -1: see errno
+// an input; how: more flags for `open`; -1: see errno
+int open_if_possible(const std::string &path, int how = 0);
 int open_input(const std::string &path);
 void check_plain(const std::string &path, const std::string &name);  // refuses a compressed file
 
@@ -161,8 +162,16 @@ std::string solver_command(const std::string &command, const std::string &formul
                            const std::string &proof);
 [[noreturn]] void solver_process(const Engine &engine, const std::string &command,
                                  const std::vector<int> &files);
-// of --check; copies the proof to these files
-[[noreturn]] void proof_process(const Engine &engine, const std::string &path,
-                                const std::vector<int> &files);
+// A proof that is copied to the pipes of its filters.
+struct Proof {
+    std::string path;
+    int file = -1;       // of a proof that comes only once; -1: the path is opened
+    int kept = -1;       // a file that has what was kept of it, and gets more if `keeps`
+    bool keeps = false;
+    std::vector<int> pipes;
+};
+
+// of lrup-check, or of a solver whose proof has several filters
+[[noreturn]] void proof_process(const Engine &engine, const Proof &proof);
 
 #endif

@@ -41,13 +41,14 @@ static int count_cores() {
 
 int half_of_the_cores() { return std::min(int(MOST_ENGINES), std::max(1, count_cores() / 2)); }
 
-// For a proof of unknown length, such as a pipe, and for each of several proofs: one.
+// For each of several proofs: one. A pipe's writer needs a core, too.
 int filters_of(const Options &options) {
     struct stat found;
     if (options.solvers.size() != 1 || !options.check) return 1;
     if (options.filters > 0) return options.filters;
     const char *path = options.solvers[0];
-    if (stat(path, &found) != 0 || !S_ISREG(found.st_mode)) return 1;
+    if (stat(path, &found) != 0 || !S_ISREG(found.st_mode))
+        return std::clamp(count_cores() - 1, 1, MOST_FILTERS);
     uint64_t shares = uint64_t(found.st_size) * (packer_of(path) ? UNPACKED : 1) / SHARE;
     return int(std::clamp<uint64_t>(shares, 1, uint64_t(std::min(count_cores(), MOST_FILTERS))));
 }
@@ -250,6 +251,7 @@ int Teams::size_of_pipes() const {
 void Teams::start_team(size_t k, uint64_t round) {
     if (k != first_of(k)) return;
     const size_t end = k + filters_at_work();
+    if (has_windows() && comes_once(k)) open_once(k);
     if (!is_here(k)) {
         for (Child *child : { &list[k].engine, &list[k].filter })
             child->pid = ELSEWHERE, child->running = true;
@@ -347,6 +349,30 @@ void Teams::check_solvers() const {
     if (!any) refuse("nothing could run: " + quoted(options.solvers[0]) + ": command not found");
 }
 
+// Whether the proof can't be read again, and so has to be kept until several filters have checked it.
+// A packed one isn't: what unpacks it ends with the process that copies the proof.
+bool Teams::comes_once(size_t k) const {
+    return !is_read_again(proof_of(k)) && !packer_of(proof_of(k));
+}
+
+// Opens such a proof for all processes that will copy it, so that a pipe's writer always finds a
+// reader. A pipe without a writer doesn't block, and isn't at its end. If the proof can't be opened,
+// the process that copies it says why.
+void Teams::open_once(size_t k) {
+    const std::string kept = Folder::name() + "/proof";
+    list[k].source = open_if_possible(proof_of(k), O_NONBLOCK);
+    if (list[k].source >= 0) kept_open(list[k].source);
+    list[k].kept = create_if_possible(kept);
+    unlink(kept.c_str());
+}
+
+Proof Teams::proof_to_copy(size_t k) const {
+    bool keeps = has_windows() && list[k].kept >= 0;
+    Proof proof = { proof_of(k), list[k].source, list[k].kept, keeps, {} };
+    for (size_t n = k; n < k + filters_at_work(); n++) proof.pipes.push_back(list[n].proof.write);
+    return proof;
+}
+
 // Returns only in the first process.
 void Teams::start_engine(size_t k) {
     Team &team = list[k];
@@ -354,10 +380,11 @@ void Teams::start_engine(size_t k) {
     Engine engine = { &inputs.options, &inputs.first_formula, &inputs.assumed, &inputs.cubes,
                       shared,          outboxes.data(),       &beginning,      team.model,
                       number,          team.proof.write };
-    std::vector<int> files = { team.proof.write };
     bool is_proof = inputs.options.check;
-    for (size_t n = k + 1; n < k + filters_at_work(); n++) files.push_back(list[n].proof.write);
+    const Proof proof = is_proof ? proof_to_copy(k) : Proof();
+    std::vector<int> files = is_proof ? proof.pipes : std::vector<int>{ team.proof.write };
     if (is_proof) {
+        files.insert(files.end(), { team.source, team.kept });
         const char *path = proof_of(k);
         struct stat found = look_at_proof(path);
         if (S_ISREG(found.st_mode) && !packer_of(path)) team.proof_size = uint64_t(found.st_size);
@@ -368,7 +395,7 @@ void Teams::start_engine(size_t k) {
     team.engine.hands_on = is_solver(k) && !is_proof;
     if (!begin(team.engine, "engine " + std::to_string(number), files)) return close_file(renamed);
     give_way();
-    if (is_proof) proof_process(engine, proof_of(k), files);
+    if (is_proof) proof_process(engine, proof);
     // drops the engine's messages
     if (!inputs.options.verbose) dup2(::open("/dev/null", O_WRONLY), STDERR_FILENO);
     if (is_solver(k)) solver_process(engine, team.command, files);
@@ -518,7 +545,8 @@ bool Teams::have_ended(size_t k, uint64_t round) const {
 }
 
 bool Teams::can_restart(size_t k) const {
-    return is_read_again(proof_of(k)) && !LOAD(engine_status(k).spilled);
+    bool is_kept = list[k].kept >= 0 && !LOAD(engine_status(k).proof_unkept);
+    return (is_kept || is_read_again(proof_of(k))) && !LOAD(engine_status(k).spilled);
 }
 
 // Call once all filters of the proof have ended. What lrupd may have got of their streams stays. If
@@ -538,17 +566,14 @@ void Teams::start_alone(size_t k, uint64_t round) {
     is_alone = true;
     awaits_one = false;
     cut_stream(k, facts.bytes);
-    list[k].engine.signal(SIGKILL);
-    wait_for(list[k].engine);
     facts.cause[0] = facts.last_words[0] = 0;
     facts.proof_ended = facts.has_steps = facts.answer = facts.needs_one = facts.refuted = 0;
     facts.stopped_at = NO_STOP;
-    facts.proof_read = 0;
     start_team(k, round);
 }
 
 bool Teams::end_filters(size_t k) {
-    bool all_ended = true;
+    bool all_ended = !list[first_of(k)].engine.running;
     for (size_t n = first_of(k); n < first_of(k) + filters(); n++) {
         list[n].filter.signal(SIGKILL);
         all_ended &= !list[n].filter.running;

@@ -15,6 +15,8 @@ struct Team {
     Child engine, filter;
     Pipe proof;
     uint64_t proof_size = 0;  // bytes of a regular file; 0: not known
+    int source = -1;          // a proof that comes only once, if several filters share it
+    int kept = -1;            // a file for its bytes
     // its file; a file in memory, for lines that can't be written to the first one any more
     int stream = -1, spare = -1;
     signed char *model = nullptr;
@@ -51,7 +53,7 @@ class Teams {
     size_t decider(size_t k) const;
     // whether some of them have stopped, and others haven't yet
     bool are_stopping() const;
-    bool has_windows() const { return filters() > 1 && !is_alone; }
+    bool has_windows() const { return filters() > 1 && !is_alone && !awaits_one; }
     const char *proof_of(size_t k) const { return inputs.options.solvers[k / filters()]; }
     std::string why_lost(size_t k) const;
     bool is_any_at_work() const;  // whether a filter is running
@@ -90,7 +92,8 @@ class Teams {
     // in the next round
     void start_alone(size_t k, uint64_t round);
     bool awaits_one = false;
-    bool end_filters(size_t k);  // of this proof; true once they have ended
+    // of this proof; true once they, and what copies the proof to them, have ended
+    bool end_filters(size_t k);
     bool have_ended(size_t k, uint64_t round) const;  // this round's streams of the proof
     uint64_t clauses = 0;        // of the round's formula
 
@@ -122,6 +125,9 @@ class Teams {
     void start_engine(size_t k);
     uint64_t whole_windows() const;
     uint64_t windows_among(uint64_t first, size_t k) const;
+    bool comes_once(size_t k) const;
+    void open_once(size_t k);
+    Proof proof_to_copy(size_t k) const;
     std::string solver_line(size_t k, int &renamed) const;
     bool is_a_stream(size_t k) const;
     void find_streams();
