@@ -347,6 +347,7 @@ std::string Rounds::look() {
         if (!has_lines()) next = number;
     }
     if (state == OPEN && (ends_here || now() >= next_saving())) end_round(false);
+    if (state == ENDING) teams.choose_end(number);
     if (state == ENDING && !checker.child.pid) start_checker(rows.row);
     if (state == ENDING && !is_behind() && !teams.are_stopping() &&
         teams.have_all(&EngineStatus::ended_round, number)) {
@@ -404,6 +405,7 @@ std::string Rounds::how_to_go_on() {
 void Rounds::end_round(bool full) {
     is_full = full;
     teams.start_others();  // every engine takes part in round 1
+    if (!full) teams.ask_to_end(number);
     STORE(teams.shared->ending_round, number);
     teams.tell_filters();
     pause_begun = now();
@@ -442,8 +444,13 @@ std::string Rounds::map_round() {
     uint64_t before = rows.words;
     if (is_full) rows_grow(&rows);
     if (test_hooks.same_words) rows.words = before;
-    if (!make_room(size(saved.old.length, saved.literals)))
-        return "the remaining clauses leave no room" + in_a_row_of(rows.largest);
+    bool fits = make_room(size(saved.old.length, saved.literals));
+    if (!fits && teams.leave_next_to_one()) {
+        display.tell_more(teams.name_of_proof(0) + ": the clauses of several filters leave no room, "
+                                                   "so one filter checks it, from its beginning");
+        fits = make_room(size(saved.old.length, saved.literals));
+    }
+    if (!fits) return "the remaining clauses leave no room" + in_a_row_of(rows.largest);
     begin_round();
     return "";
 }

@@ -238,11 +238,13 @@ bool Run::leave_to_one(size_t k) {
     const EngineStatus &facts = teams.engine_status(teams.decider(k));
     bool has_died = teams.has_died(k),
          needs_one = teams[teams.decider(k)].filter.ended() && facts.needs_one,
-         is_unread = teams[k].engine.ended() && teams.engine_status(k).last_words[0];
+         is_unread = inputs.options.check && teams[k].engine.ended() &&
+                     teams.engine_status(k).last_words[0];
     if (!(has_died || needs_one) || is_unread || !teams.can_restart(k)) return false;
     std::string why = has_died ? "a filter " + teams[teams.decider(k)].filter.end() + ", so " : "";
     if (!teams.end_filters(k)) return true;
-    display.tell_more(teams[k].command + ": " + why + "one filter checks it, from its beginning");
+    display.tell_more(teams.name_of_proof(k) + ": " + why +
+                      "one filter checks it, from its beginning");
     rounds.leave_to_one(k);
     return true;
 }

@@ -69,6 +69,9 @@ typedef struct {
     uint64_t ended_round;   // the last round whose stream it has finished
     uint64_t mapped_round;  // its clauses have the identities of the round after this one
     uint64_t last;          // the identity of its stream's last line
+    // Of a filter that shares its proof: the last round that it was asked to end; and how many steps
+    // of the proof it had read by then, or when it ended that round or stopped.
+    uint64_t asked_round, steps;
     // Of a filter that shares its proof with others: its first window that isn't whole, counted
     // from 0 in each round, or NO_WINDOW; how many of its windows are whole, and what they have in
     // all, by their number modulo WINDOWS_NOTED; the additions before the step at which it stopped,
@@ -105,6 +108,9 @@ typedef struct {
     int over;                      // the run has its answer: streams end after a whole line
     uint64_t round;                // from 1
     uint64_t ending_round;         // all streams of this round end after a whole line
+    // Filters that share a proof are asked to end this round, and have then read as many steps as
+    // the one that is ahead of all, which are known for `chosen_round`.
+    uint64_t asking_round, chosen_round, chosen_steps;
     // lrupd has saved this round; `checkpoint` and the streams' numbers are the next round's
     uint64_t saved_round;
     uint64_t streams;

@@ -18,7 +18,7 @@ extern const char *program_name;  // options.cpp
 struct Options {
     int engines = 0;     // 0: half of the cores; solvers are added later
     bool check = false;  // lrup-check: solvers are existing proofs
-    int filters = 0;     // of a proof; 0: depends on its length and the cores
+    int filters = 0;     // of the only proof; 0: depends on its length and the cores
     // commands, or paths of proofs; they become the last engines, which share nothing
     std::vector<const char *> solvers;
     double seconds = 0;  // for the run; 0: no limit
@@ -41,7 +41,8 @@ struct Options {
     bool reports_progress = false;  // as lines of JSON
 
     bool may_be_resumed() const { return record && !check; }
-    bool shares() const { return share && size_t(engines) > solvers.size() + 1; }
+    // `filters` is above 1 only if there are no other engines
+    bool shares() const { return share && filters <= 1 && size_t(engines) > solvers.size() + 1; }
 };
 
 Options read_words(int count, char **words);
