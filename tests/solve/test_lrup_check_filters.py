@@ -281,7 +281,7 @@ def test_a_clause_too_long_for_windows(work: Path) -> None:
 def test_no_room_for_several_filters(work: Path) -> None:
     """The clauses that several filters keep don't fit into a row; those of one filter do."""
     formula, proof = long_proof("binary DRAT", work)
-    words = ["-v", "--memory", "20000", formula, proof]
+    words = ["-v", "--memory", "20000,40000", formula, proof]
     hooks = {"WINDOW": 7, "FIRST_WORDS": 6000}
     answer = check(["-j", 3, *words], tested=hooks)
     assert (answer.answers, answer.status) == (["s UNSATISFIABLE"], 0), answer.out
