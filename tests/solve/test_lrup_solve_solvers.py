@@ -11,7 +11,6 @@ import shlex
 import shutil
 import signal
 import subprocess
-import time
 from pathlib import Path
 from typing import Dict, List, Mapping, Sequence, Tuple
 
@@ -478,9 +477,11 @@ def test_several_filters_of_larger_proofs(name: str, status: int, command: str,
         assert lrat_fault(read_formula(formula), (tmp_path / "lrat").read_text()) == ""
 
 
+@pytest.mark.seeds(5)
 @each_solver
-def test_rounds_of_several_filters(command: str, tmp_path: Path) -> None:
-    """Each ends a round before the same step."""
+def test_rounds_of_several_filters(command: str, seed: int, tmp_path: Path) -> None:
+    """Each ends a round before the same step. The last round ends in each run at another moment,
+    while some filters aren't as far as the one that refutes the formula."""
     formula, kept = given("random 150 1", tmp_path), tmp_path / "kept"
     answer = solve(["-v", "--proofs", kept, *by_filters(3, command), formula],
                    tested={**MANY_ROUNDS, "WINDOW": 7})
@@ -559,12 +560,12 @@ def test_killed_with_several_filters(whom: str, tmp_path: Path) -> None:
     """Another filter takes the whole proof from one that is killed. Without the process that copies
     the proof, or the solver's, there is no answer."""
     needs("cadical")
-    mark, formula = marked(tmp_path), given("random 170 4", tmp_path)
-    words = ["-v", *by_filters(3, slow(tmp_path, SLOWLY, 1)), formula]
+    mark, formula, kept = marked(tmp_path), given("random 170 4", tmp_path), tmp_path / "kept"
+    words = ["-v", *by_filters(3, slow(tmp_path, SLOWLY, 3)), "--proofs", kept, formula]
     with started(command_of(words, {"WINDOW": 7}), env=in_environment({"WINDOW": 7}),
                  stdout=subprocess.PIPE, text=True) as running:
-        until(f"{whom} is there", lambda: whom in children_of(running.pid))
-        time.sleep(0.5)
+        until("there is a stream", lambda: any(path.stat().st_size > 100000
+                                               for path in kept.glob("round-1.stream-*")))
         os.kill(children_of(running.pid)[whom], signal.SIGKILL)
         out = running.communicate(timeout=LIMIT)[0]
     none_left(mark)
