@@ -145,7 +145,7 @@ def test_a_proof_that_begins_late(form: str, tmp_path: Path) -> None:
 
 def with_gaps(formula: Path, work: Path) -> str:
     """A solver writes LRAT, and leaves out two identities after each clause."""
-    want_answer(solve(["--proofs", work / "exact", *by([CADICAL]), formula],
+    want_answer(solve(["--proofs", work / "exact", *by_filters(1, CADICAL), formula],
                       tested={"FIRST_WORDS": 1 << 24}), 20)
     lines = (work / "exact" / "round-1.stream-1").read_text().splitlines()
     first = int(lines[0].split()[0])
