@@ -210,18 +210,25 @@ std::string Display::proofs_read() const {
 // At the end.
 
 void Display::details() const {
-    for (size_t k = 0; k < teams.size() && !inputs.options.check; k++) {
+    for (size_t k = 0; k < teams.size() && !inputs.options.check; k += teams.filters()) {
         const EngineStatus &engine_status = teams.engine_status(k);
-        uint64_t lines = LOAD(engine_status.lines);
-        tell(format("%s: %.2f s, its filter %.2f s; %s conflicts; clauses: %s taken over, %s "
+        uint64_t lines = 0, citing = 0;
+        double filters = teams[k].copier.seconds;
+        for (size_t n = k; n < k + teams.filters(); n++) {
+            lines += LOAD(teams.engine_status(n).lines);
+            citing += LOAD(teams.engine_status(n).citing_others);
+            filters += teams[n].filter.seconds;
+        }
+        std::string its = teams.filters() > 1 ? counted(teams.filters(), "filter") : "filter";
+        tell(format("%s: %.2f s, its %s %.2f s; %s conflicts; clauses: %s taken over, %s "
                     "refused, %s given away; "
                     "%s, %.0f %% of them cite another stream",
-                    teams.title(k).c_str(), teams[k].engine.seconds, teams[k].filter.seconds,
+                    teams.title(k).c_str(), teams[k].engine.seconds, its.c_str(), filters,
                     grouped(LOAD(engine_status.conflicts)).c_str(),
                     grouped(LOAD(engine_status.taken)).c_str(),
                     grouped(LOAD(engine_status.refused)).c_str(),
                     grouped(LOAD(engine_status.given)).c_str(), counted(lines, "line").c_str(),
-                    lines ? 100.0 * double(LOAD(engine_status.citing_others)) / double(lines) : 0));
+                    lines ? 100.0 * double(citing) / double(lines) : 0));
     }
     if (teams.dealer.dealt > 0)
         tell(format("cubes: %s dealt out, %s refuted, %s handed on from lost engines",
@@ -270,7 +277,7 @@ void Display::summary() const {
     size_t left = 0;
     for (size_t k = 0; k < teams.size(); k++) {
         engines += teams[k].engine.seconds;
-        filters += teams[k].filter.seconds;
+        filters += teams[k].filter.seconds + teams[k].copier.seconds;
         left += k == teams.first_of(k) && !teams[k].told;
     }
     std::string left_of = left < teams.engines() && inputs.contradiction().empty()

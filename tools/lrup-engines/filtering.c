@@ -62,6 +62,7 @@ static _Noreturn void leave(const char *cause) {
     if (cause && !over) snprintf(engine_status->cause, sizeof engine_status->cause, "%s", cause);
     engine_status->proof_ended = input.ended;
     engine_status->has_steps = filter.steps > 0;
+    STORE(engine_status->steps, filter.steps);
     if (filter_has_windows(&filter) && (cause || refuted)) {
         engine_status->needs_one = cause && (needs_one || filter.named || filter.is_too_long);
         STORE(engine_status->stopped_at, filter.additions);
@@ -71,7 +72,7 @@ static _Noreturn void leave(const char *cause) {
 }
 
 static void note_windows(uint64_t whole) {
-    engine_status->written[whole % WINDOWS_AHEAD] =
+    engine_status->written[whole % WINDOWS_NOTED] =
         (Written){ engine_status->bytes, filter.other_hints };
     STORE(engine_status->windows, whole);
 }
@@ -105,12 +106,20 @@ static void tell(uint64_t *field, uint64_t value) {
     events_advance(&own->shared->events);
 }
 
+// Whether the first process waits for this filter to say how far it has come.
+static bool is_asked(void) {
+    return filter_has_windows(&filter) && LOAD(own->shared->asking_round) == round_number &&
+           engine_status->asked_round != round_number &&
+           engine_status->ended_round != round_number;
+}
+
 // Waits until the first process has stored at least the wanted value, or the run or the filter's
-// part of the proof ends.
+// part of the proof ends, or this filter is asked to end the round.
 static void await(const uint64_t *field, uint64_t wanted) {
     for (;;) {
         uint64_t seen = events_so_far(&engine_status->events);
-        if (LOAD(*field) >= wanted || LOAD(own->shared->over) || is_past_stop()) return;
+        if (LOAD(*field) >= wanted || LOAD(own->shared->over) || is_past_stop() || is_asked())
+            return;
         events_await(&engine_status->events, seen, -1);
     }
 }
@@ -225,6 +234,7 @@ static void end_windows(void) {
 static void end_stream(bool goes_on) {
     uint64_t literals, clauses = round_clauses(&filter, &literals);
     STORE(engine_status->held, clauses + literals);
+    STORE(engine_status->steps, filter.steps);
     if (filter_has_windows(&filter)) end_windows();
     if (goes_on) keep_for_imports();
     round_delete(&filter, &kept, goes_on);
@@ -256,10 +266,25 @@ static void next_round(void) {
     open_stream();
 }
 
-// Whether the first process ends the round. Filters that share a proof know themselves when it ends.
+// Filters that share a proof end a round before the same step. If its row is full, each of them finds
+// that itself. If it has to end early, each says how many steps it has read, and all go on to the
+// most that one of them has said: it has read the bytes of these steps, so the others get them, too.
+static bool is_ending_windows(void) {
+    if (is_asked()) {
+        STORE(engine_status->steps, filter.steps);
+        tell(&engine_status->asked_round, round_number);
+        await(&own->shared->chosen_round, round_number);
+        if (is_past_stop()) leave_to_others();
+    }
+    return LOAD(own->shared->chosen_round) == round_number &&
+           filter.steps >= LOAD(own->shared->chosen_steps);
+}
+
+// Whether the first process ends the round.
 static bool is_ending(void) {
-    return !refuted && !filter_has_windows(&filter) &&
-           LOAD(own->shared->ending_round) == round_number;
+    if (refuted || refuted_by_another) return false;
+    return filter_has_windows(&filter) ? is_ending_windows()
+                                       : LOAD(own->shared->ending_round) == round_number;
 }
 
 static bool ends(void) {
@@ -303,8 +328,8 @@ static void pass_windows(void) {
     if (window <= own_window) return;
     end_window();
     tell(&engine_status->window, own_window += own->filters);
-    uint64_t ahead = engine_status->windows + 2;
-    if (ahead > WINDOWS_AHEAD) await(&engine_status->released, ahead - WINDOWS_AHEAD);
+    uint64_t whole = engine_status->windows;
+    if (whole > WINDOWS_AHEAD) await(&engine_status->released, whole - WINDOWS_AHEAD);
 }
 
 // Whether the round has room for this step's addition, and for the clause that ends the round.

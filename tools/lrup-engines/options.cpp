@@ -132,6 +132,7 @@ void read_values(Options &options) {
     options.share = !given.no_share;
     int count = int(number("-j", given.engines, 1, MOST_ENGINES, 0));
     (options.check ? options.filters : options.engines) = count;
+    if (given.filters) options.filters = int(number("--filters", given.filters, 1, MOST_ENGINES, 0));
     options.share_size = int(number("--share-size", given.share_size, 0, 1000, 4));
     options.seed = int(number("--seed", given.seed, 0, 1000000000, 0));
     options.seconds = seconds("--time", given.time, 0);
@@ -168,6 +169,8 @@ void check_resumed(Options &options) {
 void check_engines(const Options &options) {
     if (options.solvers.size() + size_t(options.engines) > MOST_ENGINES)
         refuse("more than 64 engines, including solvers");
+    if (given.filters && (options.solvers.size() != 1 || options.engines > 0))
+        refuse("--filters takes a single --solver, and no engines");
     if (options.cubes && options.engines == 0 && !options.solvers.empty())
         refuse("--cubes without engines: -j sets their number");
     if (options.cubes && !options.share && options.engines != 1)

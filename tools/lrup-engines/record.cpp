@@ -307,8 +307,8 @@ bool is_read_again(const std::string &path) {
     return !is_ours && find(path, found) && (S_ISREG(found.st_mode) || S_ISDIR(found.st_mode));
 }
 
-int open_if_possible(const std::string &path) {
-    int file = path == "-" ? -1 : open(path.c_str(), O_RDONLY | O_CLOEXEC);
+int open_if_possible(const std::string &path, int how) {
+    int file = path == "-" ? -1 : open(path.c_str(), O_RDONLY | O_CLOEXEC | how);
     bool is_standard = file < 0 && is_standard_input(path);
     return is_standard ? fcntl(STDIN_FILENO, F_DUPFD_CLOEXEC, 3) : file;
 }

@@ -347,6 +347,7 @@ std::string Rounds::look() {
         if (!has_lines()) next = number;
     }
     if (state == OPEN && (ends_here || now() >= next_saving())) end_round(false);
+    if (state == ENDING) teams.choose_end(number);
     if (state == ENDING && !checker.child.pid) start_checker(rows.row);
     if (state == ENDING && !is_behind() && !teams.are_stopping() &&
         teams.have_all(&EngineStatus::ended_round, number)) {
@@ -404,11 +405,21 @@ std::string Rounds::how_to_go_on() {
 void Rounds::end_round(bool full) {
     is_full = full;
     teams.start_others();  // every engine takes part in round 1
+    if (!full) teams.ask_to_end(number);
     STORE(teams.shared->ending_round, number);
     teams.tell_filters();
     pause_begun = now();
     state = ENDING;
     teams.go_on();
+}
+
+// Call once all filters of the proof have ended.
+void Rounds::leave_to_one(size_t k) {
+    bool has_ended = state == SAVING || (state == ENDING && teams.have_ended(k, number));
+    if (has_ended)
+        teams.awaits_one = true;
+    else
+        teams.start_alone(k, number);
 }
 
 // lrupd has saved the round: filters take the new identities, and meanwhile lrupd begins the next
@@ -433,8 +444,13 @@ std::string Rounds::map_round() {
     uint64_t before = rows.words;
     if (is_full) rows_grow(&rows);
     if (test_hooks.same_words) rows.words = before;
-    if (!make_room(size(saved.old.length, saved.literals)))
-        return "the remaining clauses leave no room" + in_a_row_of(rows.largest);
+    bool fits = make_room(size(saved.old.length, saved.literals));
+    if (!fits && teams.leave_next_to_one()) {
+        display.tell_more(teams.name_of_proof(0) + ": the clauses of several filters leave no room, "
+                                                   "so one filter checks it, from its beginning");
+        fits = make_room(size(saved.old.length, saved.literals));
+    }
+    if (!fits) return "the remaining clauses leave no room" + in_a_row_of(rows.largest);
     begin_round();
     return "";
 }
@@ -447,6 +463,7 @@ void Rounds::begin_round() {
     teams.open_streams(number);
     keep_sizes();
     checker.begin_round(rows.row, teams.stream_files());
+    if (teams.awaits_one) teams.start_alone(0, number);
 }
 
 void Rounds::go_on() {

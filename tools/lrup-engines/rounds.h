@@ -38,6 +38,8 @@ class Rounds {
     std::string feed(bool is_last);          // feeds lrupd; returns why it can't, or ""
     bool is_behind() const { return checked < number; }  // lrupd still checks earlier rounds
     void save_last();                                    // saves the last round, for a resumed run
+    // lets one filter take the whole proof: at once or, if this round has ended, in the next one
+    void leave_to_one(size_t k);
     bool is_saving() const;
     std::string how_to_go_on();       // a message
     double next_saving() const;       // when a round that has room ends; INFINITY: never

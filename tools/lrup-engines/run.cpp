@@ -206,7 +206,9 @@ void Run::look_at_team(size_t k) {
     const Child &filter = teams[decider].filter;
     EngineStatus &facts = teams.engine_status(decider);
     if (LOAD(facts.refuted)) {
-        if (inputs.options.check && rounds.state == Rounds::OPEN && teams.is_any_at_work()) return;
+        bool others_go_on =
+            teams.has_windows() || (inputs.options.check && rounds.state == Rounds::OPEN);
+        if (others_go_on && teams.is_any_at_work()) return;
         if (teams.answered == 0) teams.answered = now();
         look_at_ends();
         ending = now() + ENDING;
@@ -219,11 +221,9 @@ void Run::look_at_team(size_t k) {
     if (filter.ended()) STORE(facts.gone, 1);
     if (phase != SOLVING || team.told || said == SATISFIABLE) return;
     bool both_ended = team.engine.ended() && filter.ended_with(0);
-    if (look_at_end(k) || !filter.ended() || !(both_ended || !filter.ended_with(0))) return;
-    if (facts.needs_one && teams.can_restart(k)) {
-        display.tell_more(team.command + ": one filter checks it, from its beginning");
-        return teams.start_alone(k, rounds.number);
-    }
+    if (leave_to_one(k) || look_at_end(k) || !filter.ended() ||
+        !(both_ended || !filter.ended_with(0)))
+        return;
     if (facts.proof_ended && team.engine.running) return;  // the engine ends soon, too
     std::string end = facts.cause[0] ? std::string("stopped: ") + facts.cause : filter.end();
     team.idle = inputs.options.check && facts.cause[0] && !facts.has_steps;  // it isn't a proof
@@ -231,6 +231,24 @@ void Run::look_at_team(size_t k) {
                                                         : end_before(k) + "its filter " + end);
     team.engine.signal(SIGKILL);
     teams.end_filters(k);
+}
+
+// Lets one filter take the whole proof if several can't check it, or if one of them was killed.
+// Returns whether that is so.
+bool Run::leave_to_one(size_t k) {
+    if (teams.awaits_one) return true;
+    const EngineStatus &facts = teams.engine_status(teams.decider(k));
+    bool has_died = teams.has_died(k),
+         needs_one = teams[teams.decider(k)].filter.ended() && facts.needs_one,
+         is_unread = inputs.options.check && teams[k].engine.ended() &&
+                     teams.engine_status(k).last_words[0];
+    if (!(has_died || needs_one) || is_unread || !teams.can_restart(k)) return false;
+    std::string why = has_died ? "a filter " + teams[teams.decider(k)].filter.end() + ", so " : "";
+    if (!teams.end_filters(k)) return true;
+    display.tell_more(teams.name_of_proof(k) + ": " + why +
+                      "one filter checks it, from its beginning");
+    rounds.leave_to_one(k);
+    return true;
 }
 
 // How an engine has ended, with the last line of a solver's standard error.
@@ -262,7 +280,10 @@ bool Run::look_at_end(size_t k) {
     bool has_ended =
         team.engine.ended() && (teams[decider].filter.ended_with(0) || !team.engine.ended_with(0));
     bool is_unread = inputs.options.check && has_ended && facts.last_words[0];
-    if (LOAD(facts.answer) != 0 || (has_cause && !is_unread) || !has_ended) return false;
+    bool is_read_no_more = inputs.options.check && !is_unread && teams[decider].filter.ended() &&
+                           !teams[decider].filter.ended_with(0);
+    if (LOAD(facts.answer) != 0 || (has_cause && !is_unread) || !has_ended || is_read_no_more)
+        return false;
     bool unfounded = LOAD(facts.unfounded);
     team.idle = !unfounded && LOAD(facts.lines) == 0 && !is_usual(team.engine);
     static const char no_values[] = "it says 'satisfiable', but gives no assignment in lines v";

@@ -17,7 +17,9 @@
 #include "test_hooks.h"
 
 enum { MOST_ENGINES = 64, LONGEST_CAUSE = 320, LONGEST_PATH = 4096 };
-enum { WINDOWS_AHEAD = 64 };  // a filter has fewer whole windows that lrupd doesn't get yet
+// A filter waits once it has this many whole windows that lrupd doesn't get yet. If the proof has been
+// stopped meanwhile, it doesn't wait, but then has at most one more.
+enum { WINDOWS_AHEAD = 60, WINDOWS_NOTED = 64 };
 // variables that cubes are made of; literals of one cube
 enum { VARIABLES_OF_CUBES = 64, MOST_OF_A_CUBE = 20 };
 
@@ -41,7 +43,10 @@ typedef struct {
     uint64_t conflicts, slices, taken, refused, satisfied;
     int group;            // the process group of a user's solver, until that has ended
     int unfounded;        // it says 10 without an assignment
-    uint64_t proof_read;  // bytes of an existing proof
+    // what copies a proof to its filters: bytes that it has copied; of a proof that comes only once,
+    // bytes that it has kept so far, and whether it keeps no more
+    uint64_t proof_read, proof_kept;
+    int proof_unkept;
     // the end of a solver's standard error, or why a proof can't be read; read it once the engine
     // has ended
     char last_words[LONGEST_CAUSE];
@@ -64,12 +69,15 @@ typedef struct {
     uint64_t ended_round;   // the last round whose stream it has finished
     uint64_t mapped_round;  // its clauses have the identities of the round after this one
     uint64_t last;          // the identity of its stream's last line
+    // Of a filter that shares its proof: the last round that it was asked to end; and how many steps
+    // of the proof it had read by then, or when it ended that round or stopped.
+    uint64_t asked_round, steps;
     // Of a filter that shares its proof with others: its first window that isn't whole, counted
     // from 0 in each round, or NO_WINDOW; how many of its windows are whole, and what they have in
-    // all, by their number modulo WINDOWS_AHEAD; the additions before the step at which it stopped,
+    // all, by their number modulo WINDOWS_NOTED; the additions before the step at which it stopped,
     // or NO_STOP; whether one filter has to take the whole proof.
     uint64_t window, windows;
-    Written written[WINDOWS_AHEAD];
+    Written written[WINDOWS_NOTED];
     uint64_t stopped_at;
     int needs_one;
     int refuted;                 // its stream has the line that proves the goal
@@ -100,6 +108,9 @@ typedef struct {
     int over;                      // the run has its answer: streams end after a whole line
     uint64_t round;                // from 1
     uint64_t ending_round;         // all streams of this round end after a whole line
+    // Filters that share a proof are asked to end this round, and have then read as many steps as
+    // the one that is ahead of all, which are known for `chosen_round`.
+    uint64_t asking_round, chosen_round, chosen_steps;
     // lrupd has saved this round; `checkpoint` and the streams' numbers are the next round's
     uint64_t saved_round;
     uint64_t streams;

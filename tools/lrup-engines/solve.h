@@ -18,7 +18,7 @@ extern const char *program_name;  // options.cpp
 struct Options {
     int engines = 0;     // 0: half of the cores; solvers are added later
     bool check = false;  // lrup-check: solvers are existing proofs
-    int filters = 0;     // of a proof; 0: depends on its length and the cores
+    int filters = 0;     // of the only proof; 0: depends on its length and the cores
     // commands, or paths of proofs; they become the last engines, which share nothing
     std::vector<const char *> solvers;
     double seconds = 0;  // for the run; 0: no limit
@@ -41,7 +41,8 @@ struct Options {
     bool reports_progress = false;  // as lines of JSON
 
     bool may_be_resumed() const { return record && !check; }
-    bool shares() const { return share && size_t(engines) > solvers.size() + 1; }
+    // `filters` is above 1 only if there are no other engines
+    bool shares() const { return share && filters <= 1 && size_t(engines) > solvers.size() + 1; }
 };
 
 Options read_words(int count, char **words);
@@ -134,7 +135,8 @@ std::string unfinished(const std::string &path);   // the name until the file is
 void check_input(const std::string &path);         // refuses what can't be read
 // whether other processes can open it, as often as they like
 bool is_read_again(const std::string &path);
-int open_if_possible(const std::string &path);  // an input; -1: see errno
+// an input; how: more flags for `open`; -1: see errno
+int open_if_possible(const std::string &path, int how = 0);
 int open_input(const std::string &path);
 void check_plain(const std::string &path, const std::string &name);  // refuses a compressed file
 
@@ -161,8 +163,16 @@ std::string solver_command(const std::string &command, const std::string &formul
                            const std::string &proof);
 [[noreturn]] void solver_process(const Engine &engine, const std::string &command,
                                  const std::vector<int> &files);
-// of --check; copies the proof to these files
-[[noreturn]] void proof_process(const Engine &engine, const std::string &path,
-                                const std::vector<int> &files);
+// A proof that is copied to the pipes of its filters.
+struct Proof {
+    std::string path;
+    int file = -1;       // of a proof that comes only once; -1: the path is opened
+    int kept = -1;       // a file that has what was kept of it, and gets more if `keeps`
+    bool keeps = false;
+    std::vector<int> pipes;
+};
+
+// of lrup-check, or of a solver whose proof has several filters
+[[noreturn]] void proof_process(const Engine &engine, const Proof &proof);
 
 #endif

@@ -13,6 +13,7 @@
 #include <poll.h>
 #include <sys/prctl.h>
 #include <sys/signalfd.h>
+#include <sys/statvfs.h>
 #include <sys/wait.h>
 #include <unistd.h>
 
@@ -273,6 +274,19 @@ class ProofPipes {
         }
     }
 
+    // Waits for bytes of the proof. False if no filter is left.
+    bool await(int proof) {
+        while (is_any_left()) {
+            std::vector<pollfd> files = { { proof, POLLIN, 0 } };
+            for (const pollfd &one : list) files.push_back({ one.fd, 0, 0 });  // errors only
+            if (poll(files.data(), files.size(), -1) < 0) continue;
+            for (size_t k = 0; k < list.size(); k++)
+                if (files[k + 1].revents != 0) close_file(list[k].fd);
+            if (files[0].revents != 0) return true;
+        }
+        return false;
+    }
+
     // A pipe may be full while others need these bytes, so none waits for another one within them.
     // False if no filter is left.
     bool write(const char *bytes, size_t length) {
@@ -283,14 +297,17 @@ class ProofPipes {
                 if (list[k].fd >= 0) write_to(list[k].fd, bytes, length, written[k]);
                 if (list[k].fd >= 0 && written[k] < length) full.push_back(list[k]);
             }
-            if (full.empty()) break;
+            if (full.empty()) return is_any_left();
             poll(full.data(), full.size(), -1);
         }
-        return std::any_of(list.begin(), list.end(), [](const pollfd &one) { return one.fd >= 0; });
     }
 
   private:
     std::vector<pollfd> list;
+
+    bool is_any_left() const {
+        return std::any_of(list.begin(), list.end(), [](const pollfd &one) { return one.fd >= 0; });
+    }
 
     static void write_to(int &file, const char *bytes, size_t length, size_t &written) {
         ssize_t count = 0;
@@ -300,27 +317,75 @@ class ProofPipes {
     }
 };
 
+// Keeps the bytes of a proof that comes only once, so that one filter can take the whole proof from
+// several ones. The file never takes more than half of the room that there would be without it.
+class KeptProof {
+  public:
+    KeptProof(const Proof &proof, EngineStatus &its_status)
+        : file(proof.kept), keeps(proof.keeps), status(its_status) {}
+
+    void keep(const char *bytes, size_t length) {
+        struct statvfs found;
+        if (!keeps || status.proof_unkept) return;
+        uint64_t before = status.proof_kept, after = before + length,
+                 most = hooked(test_hooks.proof_kept, UINT64_MAX);
+        bool has_room = fstatvfs(file, &found) == 0 && after <= most &&
+                        after <= uint64_t(found.f_bavail) * found.f_frsize;
+        if (has_room && lseek(file, off_t(before), SEEK_SET) >= 0 && write_all(file, bytes, length))
+            return STORE(status.proof_kept, after);
+        STORE(status.proof_unkept, 1);
+        if (ftruncate(file, 0) != 0) keeps = false;  // it stays as long as the run
+    }
+
+    // How many bytes it reads from this position on; 0 at the end.
+    ssize_t read_at(uint64_t position, char *bytes, size_t length) const {
+        uint64_t left = file < 0 ? 0 : status.proof_kept - position;
+        return left == 0 ? 0 : pread(file, bytes, std::min<uint64_t>(length, left), off_t(position));
+    }
+
+  private:
+    int file;
+    bool keeps;
+    EngineStatus &status;
+};
+
 }  // namespace
 
-// Copies an existing proof, as if a solver had ended with 20.
-void proof_process(const Engine &engine, const std::string &path, const std::vector<int> &files) {
+static int open_proof(const Proof &proof, Unpacking &unpacking) {
+    if (proof.file >= 0) return proof.file;
+    bool is_packed = proof.path != "-" && packer_of(proof.path.c_str());
+    return is_packed ? unpacking_open(&unpacking, proof.path.c_str()) : open_if_possible(proof.path);
+}
+
+// Copies a proof, beginning with what was kept of it. Ends once no filter is left: all that it has
+// read until then is kept. An existing proof is copied as if a solver had ended with 20.
+void proof_process(const Engine &engine, const Proof &proof) {
     std::vector<char> bytes(1 << 16);
-    ProofPipes pipes(files);
-    proof_status = &engine.shared->engine_statuses[engine.number - 1];
-    proof_name = path;
-    errors_handle(end_unread);
-    Unpacking unpacking = {};
-    bool is_packed = path != "-" && packer_of(path.c_str());
-    int file = is_packed ? unpacking_open(&unpacking, path.c_str()) : open_if_possible(path);
+    ssize_t count = 0;
+    ProofPipes pipes(proof.pipes);
     EngineStatus &status = engine.shared->engine_statuses[engine.number - 1];
-    ssize_t count = -1;
-    while (file >= 0 && (count = read(file, bytes.data(), bytes.size())) != 0) {
-        if (count < 0 && errno != EINTR) break;
-        if (count > 0 && !pipes.write(bytes.data(), size_t(count))) _exit(1);
-        if (count > 0) STORE(status.proof_read, status.proof_read + uint64_t(count));
+    KeptProof kept(proof, status);
+    auto copy = [&] {
+        if (!pipes.write(bytes.data(), size_t(count))) _exit(1);
+        STORE(status.proof_read, status.proof_read + uint64_t(count));
+    };
+    proof_status = &status;
+    proof_name = proof.path;
+    errors_handle(end_unread);
+    STORE(status.proof_read, 0);
+    while ((count = kept.read_at(status.proof_read, bytes.data(), bytes.size())) > 0) copy();
+    Unpacking unpacking = {};
+    int file = count < 0 ? -1 : open_proof(proof, unpacking);
+    if (file < 0) end_unread(error_text().c_str());
+    for (bool ends = false; !ends;) {
+        if (!pipes.await(file)) _exit(1);
+        count = read(file, bytes.data(), bytes.size());
+        if (count < 0 && errno != EINTR && errno != EAGAIN) end_unread(error_text().c_str());
+        if (count > 0) kept.keep(bytes.data(), size_t(count)), copy();
+        ends = count == 0;
     }
-    if (count < 0) end_unread(error_text().c_str());
-    unpacking_end(&unpacking, path.c_str());
+    unpacking_end(&unpacking, proof.path.c_str());
+    if (!engine.options->check) _exit(0);  // the solver's own process has the answer
     STORE(status.answer, 20);
     _exit(20);
 }

@@ -41,13 +41,14 @@ static int count_cores() {
 
 int half_of_the_cores() { return std::min(int(MOST_ENGINES), std::max(1, count_cores() / 2)); }
 
-// For a proof of unknown length, such as a pipe, and for each of several proofs: one.
+// For each of several proofs, and beside engines: one. A solver, and a pipe's writer, needs a core.
 int filters_of(const Options &options) {
     struct stat found;
-    if (options.solvers.size() != 1 || !options.check) return 1;
+    if (options.solvers.size() != 1 || options.engines > 0) return 1;
     if (options.filters > 0) return options.filters;
     const char *path = options.solvers[0];
-    if (stat(path, &found) != 0 || !S_ISREG(found.st_mode)) return 1;
+    if (!options.check || stat(path, &found) != 0 || !S_ISREG(found.st_mode))
+        return std::clamp(count_cores() - 1, 1, MOST_FILTERS);
     uint64_t shares = uint64_t(found.st_size) * (packer_of(path) ? UNPACKED : 1) / SHARE;
     return int(std::clamp<uint64_t>(shares, 1, uint64_t(std::min(count_cores(), MOST_FILTERS))));
 }
@@ -72,9 +73,13 @@ std::string Teams::title(size_t k) const {
     return what + std::to_string(k / filters() + 1);
 }
 
+std::string Teams::name_of_proof(size_t k) const {
+    return inputs.options.check ? list[k].command : title(k);
+}
+
 std::string Teams::why_lost(size_t k) const {
     const std::string &cause = list[k].cause;
-    return inputs.options.check ? list[k].command + ": " + cause : title(k) + " is lost: " + cause;
+    return name_of_proof(k) + (inputs.options.check ? ": " : " is lost: ") + cause;
 }
 
 bool Teams::is_any_at_work() const {
@@ -119,7 +124,8 @@ bool Teams::are_stopping() const {
 
 std::vector<Child *> Teams::children() {
     std::vector<Child *> found;
-    for (Team &team : list) found.push_back(&team.engine), found.push_back(&team.filter);
+    for (Team &team : list)
+        found.insert(found.end(), { &team.engine, &team.filter, &team.copier });
     return found;
 }
 
@@ -250,6 +256,7 @@ int Teams::size_of_pipes() const {
 void Teams::start_team(size_t k, uint64_t round) {
     if (k != first_of(k)) return;
     const size_t end = k + filters_at_work();
+    if (has_windows() && comes_once(k)) open_once(k);
     if (!is_here(k)) {
         for (Child *child : { &list[k].engine, &list[k].filter })
             child->pid = ELSEWHERE, child->running = true;
@@ -257,9 +264,11 @@ void Teams::start_team(size_t k, uint64_t round) {
     }
     for (size_t n = k; n < end; n++) list[n].proof = make_pipe(size_of_pipes());
     for (size_t n = k; n < end; n++) start_filter(n, round);
-    start_engine(k);
+    if (inputs.options.check || list[k].engine.pid == 0) start_engine(k);
+    if (list[k].once.read >= 0 && !inputs.options.check) start_copier(k);
     for (size_t n = k; n < end; n++)
         close_file(list[n].proof.read), close_file(list[n].proof.write);
+    close_file(list[k].once.write);
 }
 
 // Returns only in the first process.
@@ -287,23 +296,21 @@ void Teams::start_filter(size_t k, uint64_t round) {
                             cited.empty() ? nullptr : cited.data(),
                             inputs.assumed.data(),
                             inputs.assumed.size(),
-                            inputs.options.may_be_resumed() || filters() > 1
-                                ? inputs.formula.clauses
-                                : 0,
+                            filters() > 1                     ? inputs.first_formula.clauses
+                            : inputs.options.may_be_resumed() ? inputs.formula.clauses
+                                                              : 0,
                             is_solver(k) ? Beginning{ UINT64_MAX, 0, 0, 1 } : beginning };
     filter_process(&filtering, &inputs.first_formula);
 }
 
 // A formula whose path needs quotes is opened here and named by its descriptor; so is a checkpoint,
 // which is removed once there is a newer one.
-std::string Teams::solver_line(size_t k, int &renamed) const {
-    const std::vector<const char *> &solvers = inputs.options.solvers;
+std::string Teams::solver_line(size_t k, int proof, int &renamed) const {
     bool goes_on = inputs.saved.count() > 0;
     const std::string path = goes_on ? inputs.saved.checkpoint() : inputs.formula_path;
     if (goes_on || !is_plain(path)) renamed = kept_open(open_input(path));
-    return solver_command(solvers[k + solvers.size() - list.size()],
-                          renamed < 0 ? path : OPEN_FILES + std::to_string(renamed),
-                          OPEN_FILES + std::to_string(list[k].proof.write));
+    return solver_command(proof_of(k), renamed < 0 ? path : OPEN_FILES + std::to_string(renamed),
+                          OPEN_FILES + std::to_string(proof));
 }
 
 // A terminal stops processes of the background that read from it, such as these.
@@ -347,28 +354,71 @@ void Teams::check_solvers() const {
     if (!any) refuse("nothing could run: " + quoted(options.solvers[0]) + ": command not found");
 }
 
+// Whether the proof can't be read again, and so has to be kept until several filters have checked it.
+// A packed one isn't: what unpacks it ends with the process that copies the proof.
+bool Teams::comes_once(size_t k) const {
+    return !inputs.options.check || (!is_read_again(proof_of(k)) && !packer_of(proof_of(k)));
+}
+
+// Opens such a proof for all processes that will copy it, so that a pipe's writer always finds a
+// reader. A pipe without a writer doesn't block, and isn't at its end. If the proof can't be opened,
+// the process that copies it says why.
+void Teams::open_once(size_t k) {
+    const std::string kept = Folder::name() + "/proof";
+    Pipe &once = list[k].once;
+    if (!inputs.options.check)
+        once = make_pipe(size_of_pipes());
+    else if ((once.read = open_if_possible(proof_of(k), O_NONBLOCK)) >= 0)
+        kept_open(once.read);
+    list[k].kept = create_if_possible(kept);
+    unlink(kept.c_str());
+}
+
+Proof Teams::proof_to_copy(size_t k) const {
+    bool keeps = has_windows() && list[k].kept >= 0;
+    Proof proof = { proof_of(k), list[k].once.read, list[k].kept, keeps, {} };
+    for (size_t n = k; n < k + filters_at_work(); n++) proof.pipes.push_back(list[n].proof.write);
+    return proof;
+}
+
+// Like an engine, but it has no number of its own. Returns only in the first process.
+void Teams::start_copier(size_t k) {
+    const Proof proof = proof_to_copy(k);
+    std::vector<int> files = proof.pipes;
+    files.insert(files.end(), { proof.file, proof.kept });
+    if (!begin(list[k].copier, "copier", files)) return;
+    give_way();
+    Engine engine = {};
+    engine.options = &inputs.options;
+    engine.shared = shared;
+    engine.number = int(k) + 1;
+    proof_process(engine, proof);
+}
+
 // Returns only in the first process.
 void Teams::start_engine(size_t k) {
     Team &team = list[k];
-    int number = int(k) + 1, renamed = -1;
+    int number = int(k) + 1, renamed = -1,
+        pipe = team.once.write >= 0 ? team.once.write : team.proof.write;
     Engine engine = { &inputs.options, &inputs.first_formula, &inputs.assumed, &inputs.cubes,
                       shared,          outboxes.data(),       &beginning,      team.model,
-                      number,          team.proof.write };
-    std::vector<int> files = { team.proof.write };
+                      number,          pipe };
     bool is_proof = inputs.options.check;
-    for (size_t n = k + 1; n < k + filters_at_work(); n++) files.push_back(list[n].proof.write);
+    const Proof proof = is_proof ? proof_to_copy(k) : Proof();
+    std::vector<int> files = is_proof ? proof.pipes : std::vector<int>{ pipe };
     if (is_proof) {
+        files.insert(files.end(), { proof.file, proof.kept });
         const char *path = proof_of(k);
         struct stat found = look_at_proof(path);
         if (S_ISREG(found.st_mode) && !packer_of(path)) team.proof_size = uint64_t(found.st_size);
         team.command = ::title(path);
     } else if (is_solver(k))
-        team.command = solver_line(k, renamed);
+        team.command = solver_line(k, pipe, renamed);
     if (renamed >= 0) files.push_back(renamed);
     team.engine.hands_on = is_solver(k) && !is_proof;
     if (!begin(team.engine, "engine " + std::to_string(number), files)) return close_file(renamed);
     give_way();
-    if (is_proof) proof_process(engine, proof_of(k), files);
+    if (is_proof) proof_process(engine, proof);
     // drops the engine's messages
     if (!inputs.options.verbose) dup2(::open("/dev/null", O_WRONLY), STDERR_FILENO);
     if (is_solver(k)) solver_process(engine, team.command, files);
@@ -384,7 +434,7 @@ void Teams::look() {
 }
 
 bool Teams::has_refuted(size_t k) const {
-    return LOAD(engine_status(k).answer) == UNSATISFIABLE && list[k].filter.running;
+    return LOAD(engine_status(first_of(k)).answer) == UNSATISFIABLE && list[k].filter.running;
 }
 
 // While the filter of an engine that has refuted the formula catches up, the other engines and
@@ -451,6 +501,7 @@ bool Teams::end_streams(bool is_late) {
     bool all_ended = true;
     for (Team &team : list) {
         team.engine.signal(SIGKILL);
+        team.copier.signal(SIGKILL);
         team.filter.signal(is_late ? SIGKILL : SIGCONT);
         all_ended &= !team.filter.running;
     }
@@ -489,7 +540,7 @@ Written Teams::written_of(size_t k) const {
     Written all = { LOAD(facts.bytes), LOAD(facts.other_hints) };
     uint64_t whole = whole_windows();
     bool is_next = !has_windows() || whole == LOAD(facts.window);
-    Written found = is_next ? all : facts.written[windows_among(whole, k) % WINDOWS_AHEAD];
+    Written found = is_next ? all : facts.written[windows_among(whole, k) % WINDOWS_NOTED];
     found.bytes = std::min(found.bytes, list[k].most_fed);
     return found;
 }
@@ -505,8 +556,42 @@ void Teams::release() {
     }
 }
 
+void Teams::ask_to_end(uint64_t round) {
+    if (has_windows()) STORE(shared->asking_round, round);
+}
+
+// Call while the round ends. None of the filters goes on before all have said how far they are.
+void Teams::choose_end(uint64_t round) {
+    uint64_t most = 0;
+    if (!has_windows() || shared->asking_round != round || shared->chosen_round == round) return;
+    for (size_t k = 0; k < list.size(); k++) {
+        const EngineStatus &facts = engine_status(k);
+        bool has_said = !list[k].filter.running || LOAD(facts.asked_round) == round ||
+                        LOAD(facts.ended_round) == round;
+        if (!has_said) return;
+        most = std::max(most, LOAD(facts.steps));
+    }
+    STORE(shared->chosen_steps, most);
+    STORE(shared->chosen_round, round);
+    tell_filters();
+}
+
+bool Teams::has_died(size_t k) const {
+    const size_t found = decider(k);
+    return has_windows() && list[found].filter.ended() && !list[found].filter.ended_with(0) &&
+           LOAD(engine_status(found).stopped_at) == NO_STOP;
+}
+
+bool Teams::have_ended(size_t k, uint64_t round) const {
+    for (size_t n = first_of(k); n < first_of(k) + filters(); n++)
+        if (LOAD(engine_status(n).ended_round) != round) return false;
+    return true;
+}
+
 bool Teams::can_restart(size_t k) const {
-    return is_read_again(proof_of(k)) && !LOAD(engine_status(k).spilled);
+    bool is_kept = list[k].kept >= 0 && !LOAD(engine_status(k).proof_unkept),
+         is_there = comes_once(k) ? is_kept : is_read_again(proof_of(k));
+    return is_there && !LOAD(engine_status(k).spilled);
 }
 
 // Call once all filters of the proof have ended. What lrupd may have got of their streams stays. If
@@ -524,18 +609,32 @@ void Teams::start_alone(size_t k, uint64_t round) {
     list[k].most_fed = UINT64_MAX;
     if (is_new) facts.last = facts.round_lines = facts.round_literals = 0;
     is_alone = true;
+    awaits_one = false;
     cut_stream(k, facts.bytes);
-    list[k].engine.signal(SIGKILL);
-    wait_for(list[k].engine);
-    facts.cause[0] = facts.last_words[0] = 0;
-    facts.proof_ended = facts.has_steps = facts.answer = facts.needs_one = facts.refuted = 0;
+    facts.cause[0] = 0;
+    facts.proof_ended = facts.has_steps = facts.needs_one = facts.refuted = 0;
     facts.stopped_at = NO_STOP;
-    facts.proof_read = 0;
+    if (inputs.options.check) facts.last_words[0] = 0, STORE(facts.answer, 0);
     start_team(k, round);
 }
 
-void Teams::end_filters(size_t k) {
-    for (size_t n = first_of(k); n < first_of(k) + filters(); n++) list[n].filter.signal(SIGKILL);
+bool Teams::leave_next_to_one() {
+    if (!has_windows() || !can_restart(0)) return false;
+    end_filters(0);
+    for (Team &team : list) wait_for(team.filter);
+    wait_for(copier_of(0));
+    awaits_one = true;
+    number_streams();
+    return true;
+}
+
+bool Teams::end_filters(size_t k) {
+    bool all_ended = !copier_of(first_of(k)).running;
+    for (size_t n = first_of(k); n < first_of(k) + filters(); n++) {
+        list[n].filter.signal(SIGKILL);
+        all_ended &= !list[n].filter.running;
+    }
+    return all_ended;
 }
 
 // Streams.
@@ -556,7 +655,7 @@ std::vector<int> Teams::stream_files() const {
 void Teams::number_streams() {
     uint64_t count = 0;
     for (size_t k = 0; k < list.size(); k++) {
-        bool goes_on = list[k].filter.running && k + 1 != shared->leaving;
+        bool goes_on = awaits_one ? k == 0 : list[k].filter.running && k + 1 != shared->leaving;
         STORE(engine_status(k).stream, goes_on ? ++count : 0);
     }
     STORE(shared->streams, count);

@@ -10,11 +10,16 @@
 
 enum Answer { UNKNOWN_ANSWER = 0, SATISFIABLE = 10, UNSATISFIABLE = 20 };
 
-// An engine with its filter. Several filters may share a proof: the first one's team has the engine.
+// An engine with its filter. Several filters may share a proof: the first one's team has the engine
+// and, if that is a user's solver, a process that copies what the solver writes to the filters.
 struct Team {
-    Child engine, filter;
+    Child engine, filter, copier;
     Pipe proof;
     uint64_t proof_size = 0;  // bytes of a regular file; 0: not known
+    // a proof that comes only once, if several filters share it: its file, or the solver's pipe; and
+    // a file for its bytes
+    Pipe once;
+    int kept = -1;
     // its file; a file in memory, for lines that can't be written to the first one any more
     int stream = -1, spare = -1;
     signed char *model = nullptr;
@@ -41,7 +46,8 @@ class Teams {
     const Team &operator[](size_t k) const { return list[k]; }
     EngineStatus &engine_status(size_t k) const { return shared->engine_statuses[k]; }
     bool is_solver(size_t k) const {
-        return inputs.options.check || k + inputs.options.solvers.size() >= list.size();
+        return inputs.options.check ||
+               k / filters() + inputs.options.solvers.size() >= list.size() / filters();
     }
     // Of filters that share a proof: the first one; and the one that decides how the proof ended,
     // or one that is running.
@@ -51,8 +57,13 @@ class Teams {
     size_t decider(size_t k) const;
     // whether some of them have stopped, and others haven't yet
     bool are_stopping() const;
-    bool has_windows() const { return filters() > 1 && !is_alone; }
-    const char *proof_of(size_t k) const { return inputs.options.solvers[k / filters()]; }
+    bool has_windows() const { return filters() > 1 && !is_alone && !awaits_one; }
+    // its path, or the solver's command
+    const char *proof_of(size_t k) const {
+        return inputs.options.solvers[k / filters() + inputs.options.solvers.size() -
+                                      list.size() / filters()];
+    }
+    Child &copier_of(size_t k) { return inputs.options.check ? list[k].engine : list[k].copier; }
     std::string why_lost(size_t k) const;
     bool is_any_at_work() const;  // whether a filter is running
     bool is_here(size_t k) const {
@@ -61,6 +72,7 @@ class Teams {
     // it has no assignment, its proof isn't read any more, and the cause is known
     bool is_lost(size_t k) const;
     std::string title(size_t k) const;                  // engine 1, solver 1 or proof 1
+    std::string name_of_proof(size_t k) const;          // its file, or solver 1
     uint64_t all(uint64_t EngineStatus::*field) const;  // the sum over all engines
     bool have_all(uint64_t EngineStatus::*field, uint64_t wanted) const;  // for all running filters
     std::vector<Child *> children();
@@ -83,10 +95,21 @@ class Teams {
     void tell_fed(size_t k, uint64_t bytes) const;
     Written written_of(size_t k) const;  // what counts of it
     void release();                      // windows of filters that share a proof, to lrupd
+    // asks filters that share a proof to end the round, and chooses the step before which they do
+    void ask_to_end(uint64_t round);
+    void choose_end(uint64_t round);
+    // whether one of several filters of the proof was killed, perhaps since memory is short
+    bool has_died(size_t k) const;
     bool can_restart(size_t k) const;
-    // the proof's first filter, which then takes the whole proof
+    // the proof's first filter, which then takes the whole proof: now, or once `awaits_one` is set
+    // in the next round
     void start_alone(size_t k, uint64_t round);
-    void end_filters(size_t k);  // of this proof
+    bool awaits_one = false;
+    // of this proof; true once they, and what copies the proof to them, have ended
+    bool end_filters(size_t k);
+    // between two rounds: ends the filters of the only proof; false if one can't take it
+    bool leave_next_to_one();
+    bool have_ended(size_t k, uint64_t round) const;  // this round's streams of the proof
     uint64_t clauses = 0;        // of the round's formula
 
     std::string lost;                     // why the record is incomplete; empty: it isn't
@@ -115,9 +138,13 @@ class Teams {
     void start_team(size_t k, uint64_t round);
     void start_filter(size_t k, uint64_t round);
     void start_engine(size_t k);
+    void start_copier(size_t k);
     uint64_t whole_windows() const;
     uint64_t windows_among(uint64_t first, size_t k) const;
-    std::string solver_line(size_t k, int &renamed) const;
+    bool comes_once(size_t k) const;
+    void open_once(size_t k);
+    Proof proof_to_copy(size_t k) const;
+    std::string solver_line(size_t k, int proof, int &renamed) const;
     bool is_a_stream(size_t k) const;
     void find_streams();
     void find_beginning();

@@ -17,6 +17,7 @@
     NUMBER(outbox)      /* words of an outbox */                                                   \
     NUMBER(ahead)       /* how many bytes a filter may be ahead of lrupd before it waits */        \
     NUMBER(window)      /* additions in a window of a filter that shares its proof */              \
+    NUMBER(proof_kept)  /* bytes of a proof that comes only once that are kept at most */          \
     NUMBER(tries)       /* of lrupd */                                                             \
     NUMBER(packed_from) /* bytes of the shortest stream that is packed */                          \
     NUMBER(exchanging)  /* milliseconds between exchanges of processes */                          \
