@@ -10,14 +10,15 @@ import random
 import re
 import sys
 from pathlib import Path
-from typing import Any, Callable, Dict, List, Optional, Tuple
+from typing import Any, Callable, Dict, List, NamedTuple, Optional, Tuple
 
 import pytest
 
-from harness import EXAMPLES, lacking, needs, run, written
+from harness import EXAMPLES, Ran, lacking, needs, run, written
 
 SMT, LEMMA = EXAMPLES / "smt" / "smt2cnf.py", EXAMPLES / "lemma" / "lemma.py"
-BMC, SHOW = EXAMPLES / "fifo" / "bmc.sh", EXAMPLES / "show.awk"
+BMC, MITER = EXAMPLES / "fifo" / "bmc.sh", EXAMPLES / "miter" / "miter.sh"
+SHOW = EXAMPLES / "show.awk"
 PROBLEMS = 50   # of a seed
 
 
@@ -211,26 +212,445 @@ SHIFTED = """module shifted(input clock, input reset, input in, output bad);
   assign bad = began && last == 5;
 endmodule
 """
+# Registers that may hold anything at first, unless the circuit says what they hold.
+ENABLED = """module enabled(input clock, input reset, input enable, output bad);
+  reg a;
+  always @(posedge clock) if (enable) a <= 1;
+  assign bad = !a;
+endmodule
+"""
+TWINS = """module twins(input clock, input reset, input enable, input in, output bad);
+  reg a, b;
+  always @(posedge clock) if (enable) begin a <= in; b <= in; end
+  assign bad = a != b;
+endmodule
+"""
+DELAYED = """module delayed(input clock, input reset, output bad);
+  reg a, b;
+  always @(posedge clock) begin a <= 1; b <= a; end
+  assign bad = !b;
+endmodule
+"""
+DELAYED_TWINS = """module delayed_twins(input clock, input reset, input in, output bad);
+  reg a, b, differ;
+  always @(posedge clock) begin a <= in; b <= in; differ <= a ^ b; end
+  assign bad = differ;
+endmodule
+"""
+COMPARED_ENABLES = """module one(input clock, input enable, input in, output reg data);
+  always @(posedge clock) if (enable) data <= in;
+endmodule
+module other(input clock, input enable, input in, output reg data);
+  always @(posedge clock) data <= enable ? in : data;
+endmodule
+module compared(input clock, input reset, input enable, input in, output bad);
+  wire a, b;
+  one first(clock, enable, in, a);
+  other second(clock, enable, in, b);
+  assign bad = a != b;
+endmodule
+"""
+CREDITS = """module credits(input clock, input reset, input less, input more, output bad);
+  reg [2:0] count;
+  always @(posedge clock)
+    if (reset) count <= 0;
+    else begin
+      if (less) count <= count - 1;
+      if (more) count <= count + 1;
+    end
+  assign bad = count == 7;
+endmodule
+"""
+BEGUN = """module begun(input clock, input reset, output bad);
+  reg [3:0] count = 0;
+  always @(posedge clock) if (reset) count <= 0; else count <= count + 1;
+  assign bad = count == 12;
+endmodule
+"""
+TABLE = """module table(input clock, input reset, input [1:0] in, output bad);
+  reg [1:0] memory [0:3];
+  reg [1:0] at;
+  initial begin memory[0] = 1; memory[1] = 2; memory[2] = 1; memory[3] = 2; end
+  always @(posedge clock) at <= in;
+  assign bad = memory[at] == 3 - FIRST;
+endmodule
+"""
+BEYOND = """module beyond(input clock, input reset, input [1:0] at, input [2:0] in, output bad);
+  reg last;
+  always @(posedge clock) last <= in[at];
+  assign bad = last && at == 3 && in == 0;
+endmodule
+"""
 CIRCUITS = {"a queue": FIFO, "a queue without a limit": FIFO.replace("push && !full", "push"),
             "a queue without a lower limit": FIFO.replace("pop && !empty", "pop"),
             "a shift register": SHIFTED, "a shift register with 1s":
-            SHIFTED.replace("began = 0", "began = 1").replace("last == 5", "last[0]")}
+            SHIFTED.replace("began = 0", "began = 1").replace("last == 5", "last[0]"),
+            "a register that only ever gets a 1": ENABLED,
+            "two registers with the same input": TWINS,
+            "two registers with the same initial value and input":
+            TWINS.replace("a, b", "a = 0, b = 0"),
+            "a register that gets a 1 a step later": DELAYED,
+            "the difference of two registers with the same input": DELAYED_TWINS,
+            "two modules with registers without a reset": COMPARED_ENABLES,
+            "a counter with two assignments": CREDITS,
+            "a counter at a falling edge": CREDITS.replace("posedge", "negedge"),
+            "an asynchronous reset": CREDITS.replace("clock)", "clock or posedge reset)"),
+            "a counter that begins at 0": BEGUN, "a table": TABLE.replace("FIRST", "0"),
+            "a table with 2s": TABLE.replace("FIRST", "1"), "a bit beyond a word's end": BEYOND}
+EVERY_CIRCUIT = [pytest.param(text, id=name) for name, text in CIRCUITS.items()]
 
 
-@pytest.mark.parametrize("depth", range(2, 9))
-@pytest.mark.parametrize("text", [pytest.param(text, id=name) for name, text in CIRCUITS.items()])
+def satisfiable_by_yosys(circuit: Path, depth: int, induction: bool) -> bool:
+    """Whether the formula of yosys's own command `sat` is, without any pass that simplifies. What
+    is undefined may be 0 or 1."""
+    own = circuit.with_name("own.cnf")
+    own.unlink(missing_ok=True)
+    asked = (f"-prove-skip {depth - 1} " + " ".join(f"-set-at {step} bad 0"
+                                                    for step in range(1, depth))
+             if induction else "-prove-skip 1 -set-at 1 reset 1")
+    script = ("hierarchy -auto-top; proc -norom; async2sync; memory_collect; memory_map -keepdc; "
+              "flatten; setundef -undriven -anyseq; techmap; setundef -undriven -anyseq; "
+              f"{'setattr -unset init w:*; ' if induction else ''}"
+              f"sat -timeout 1 -seq {depth} -prove bad 0 {asked} -dump_cnf {own}")
+    done = run(["yosys", "-q", "-f", "verilog", "-p", script, circuit])
+    assert own.exists(), done
+    needs("cadical")
+    return run(["cadical", "-q", own]).status == 10
+
+
+def values_of_bmc(circuit: Path, depth: int, induction: bool) -> Optional[Dict[str, str]]:
+    """The bits of each wire in each step, in an assignment of the formula of bmc.sh, if it has one.
+    Then `bad` is 1 where it was asked for."""
+    formula = circuit.with_name("one.cnf")
+    done = run([BMC, *["--induction"] * induction, circuit, depth, formula])
+    assert done == Ran("", "", 0)
+    values = shown(formula)
+    if values is not None:
+        found = [values[f"bad@{step}"] for step in range(1, depth + 1)]
+        assert found == ["0"] * (depth - 1) + ["1"] if induction else "1" in found[1:], values
+    return values
+
+
+@pytest.mark.parametrize("depth", [2, 3, 4, 8])
+@pytest.mark.parametrize("text", EVERY_CIRCUIT)
 def test_bounded_model_checking(text: str, depth: int, tmp_path: Path) -> None:
     """The formula of bmc.sh is satisfiable if the one of yosys's own command `sat` is."""
     needs("yosys")
     circuit = written(text, tmp_path, "one.v")
-    formula, own = tmp_path / "one.cnf", tmp_path / "own.cnf"
-    done = run([BMC, circuit, depth, formula])
+    values = values_of_bmc(circuit, depth, induction=False)
+    assert (values is not None) == satisfiable_by_yosys(circuit, depth, induction=False)
+
+
+@pytest.mark.parametrize("depth", [2, 3])
+@pytest.mark.parametrize("text", EVERY_CIRCUIT)
+def test_induction(text: str, depth: int, tmp_path: Path) -> None:
+    """The same with --induction. Registers may hold anything at first."""
+    needs("yosys")
+    circuit = written(text, tmp_path, "one.v")
+    values = values_of_bmc(circuit, depth, induction=True)
+    assert (values is not None) == satisfiable_by_yosys(circuit, depth, induction=True)
+
+
+# Circuits that the scripts refuse, and what is known of a formula.
+
+TWO_CLOCKS = """module clocks(input clock, input another, input reset, input in, output bad);
+  reg a, b, late;
+  always @(posedge clock) begin a <= in; b <= a; end
+  always @(posedge another) late <= a;
+  assign bad = late != b;
+endmodule
+"""
+DRIVEN = """module driven(input clock, input reset, input a, input b, output bad);
+  wire w;
+  assign w = a;
+  assign w = b;
+  assign bad = a != b;
+endmodule
+"""
+DRIVEN_BY_BLOCKS = """module driven(input clock, input reset, input a, input b, output bad);
+  reg last, other;
+  always @(posedge clock) last <= a;
+  always @(posedge clock) last <= b;
+  always @(posedge clock) other <= a;
+  assign bad = last != other;
+endmodule
+"""
+INPUT_OF_A_PART = """module part(input a, output b);
+  assign a = 0;
+  assign b = a;
+endmodule
+module driven(input clock, input reset, input a, output bad);
+  part only(a, b);
+  assign bad = a;
+endmodule
+"""
+LOOP = """module loop(input clock, input reset, input a, output bad);
+  wire w;
+  assign w = !(w && a);
+  assign bad = w;
+endmodule
+"""
+CLOCKS, DRIVERS = "Assertion failed: selection ", "multiple conflicting drivers for "
+REFUSED = {
+    "two clocks": (TWO_CLOCKS, CLOCKS + "contains 2 elements"),
+    "both edges of a clock": (TWO_CLOCKS.replace("posedge another", "negedge clock"),
+                              CLOCKS + "is not empty: @clocks_with_both_edges"),
+    "a gated clock": (TWO_CLOCKS.replace("edge clock", "edge gated").replace("edge another",
+                      "edge gated").replace("reg a", "wire gated = clock && reset; reg a"),
+                      CLOCKS + "is not empty: @clocks_that_are_no_inputs"),
+    "two clocks in a word": (TWO_CLOCKS.replace("clock,", "[1:0] clock,").replace(
+        "edge clock", "edge clock[0]").replace("edge another", "edge clock[1]"),
+                             CLOCKS + "is not empty: @clocks_of_several_bits"),
+    "two inputs at a wire": (DRIVEN, DRIVERS),
+    "an input and a constant at a wire": (DRIVEN.replace("w = b", "w = 0"), DRIVERS),
+    "two constants at a wire": (DRIVEN.replace("w = a", "w = 1").replace("w = b", "w = 0"),
+                                DRIVERS),
+    "a register with two blocks": (DRIVEN_BY_BLOCKS, DRIVERS),
+    "a part that drives its input": (INPUT_OF_A_PART, DRIVERS),
+    "a loop": (LOOP, "found logic loop"),
+    "a loop of one gate": (LOOP.replace("(w && a)", "w"), "found logic loop"),
+    "no Verilog": ("module\n", "syntax error"),
+    "no output": (LOOP.replace("bad", "good").replace("w && a", "a"), "no output bad")}
+ONE = """module one(input a, input b, output c);
+  assign c = a;
+endmodule
+"""
+
+
+def check_refused(script: Path, words: List[object], text: str, said: str, folder: Path) -> None:
+    """Nothing is left in the folder, not even an older formula."""
+    circuit, formula = written(text, folder, "one.v"), folder / "one.cnf"
+    for old in ("", "p cnf 1 2\n1 0\n-1 0\n"):
+        if old:
+            formula.write_text(old)
+        done = run([script, circuit, *words, formula])
+        assert (done.out, done.status) == ("", 1)
+        assert said in done.err
+        assert list(folder.iterdir()) == [circuit]
+
+
+@pytest.mark.parametrize("text, said", [pytest.param(*row, id=name)
+                                        for name, row in REFUSED.items()])
+def test_bmc_refuses_a_circuit(text: str, said: str, tmp_path: Path) -> None:
+    needs("yosys")
+    check_refused(BMC, [3], text, said, tmp_path)
+
+
+@pytest.mark.parametrize("text, said", [
+    pytest.param("  wire w;\n  assign w = a;\n  assign w = b;\n  assign c = a;\n", DRIVERS,
+                 id="two inputs at a wire"),
+    pytest.param("  wire w;\n  assign w = !w;\n  assign c = a;\n", "found logic loop",
+                 id="a loop"),
+    pytest.param("  reg last;\n  always @(posedge b) last <= 1;\n  assign c = a & last;\n",
+                 "a circuit with registers", id="a register that only ever gets a 1"),
+    pytest.param("  reg last;\n  always @* if (b) last = a;\n  assign c = last;\n", "_DLATCH_",
+                 id="a latch")])
+def test_miter_refuses_a_circuit(text: str, said: str, tmp_path: Path) -> None:
+    needs("yosys")
+    check_refused(MITER, [], ONE + ONE.replace("one", "other").replace("  assign c = a;\n", text),
+                  said, tmp_path)
+
+
+def test_a_register_that_nothing_reads_has_a_name(tmp_path: Path) -> None:
+    needs("yosys")
+    text = CREDITS.replace("bad = count == 7", "bad = count == 1").replace(
+        "  reg", "  reg seen;\n  always @(posedge clock) if (more) seen <= 1;\n  reg")
+    values = values_of_bmc(written(text, tmp_path, "one.v"), 3, induction=False)
+    assert values is not None
+    assert {f"seen@{step}" for step in (1, 2, 3)} <= set(values)
+
+
+TIED = CREDITS.replace("output bad);", "output bad);\n  wire [7:0] zero = 8'h00;\n  wire one = 1;")
+
+
+def test_a_core_has_no_tied_wires(tmp_path: Path) -> None:
+    """Not even one with the clause for constants."""
+    needs("yosys")
+    circuit, formula = written(TIED.replace("== 7", "== 1"), tmp_path, "one.v"), tmp_path / "one.cnf"
+    values = values_of_bmc(circuit, 3, induction=False)
+    assert values is not None
+    assert (values["zero@2"], values["one@2"]) == ("00000000", "1")
+    lines = formula.read_text().splitlines(keepends=True)
+    tied = next(abs(int(line.split()[2])) for line in lines if line.startswith("c one@2 "))
+    assert [line for line in lines if line[0] not in "cp" and str(tied) in
+            line.replace("-", "").split()[:-1]] == [f"-{tied} 0\n"]
+    core = written("".join(line for line in lines if line != f"-{tied} 0\n"), tmp_path, "core")
+    done = run([SHOW, formula, core])
     assert (done.err, done.status) == ("", 0)
-    script = (f"hierarchy -auto-top; proc; memory; flatten; techmap; opt; sat -timeout 1 -seq "
-              f"{depth} -set-at 1 reset 1 -prove bad 0 -prove-skip 1 -dump_cnf {own}")
-    run(["yosys", "-q", "-f", "verilog", "-p", script, circuit])
-    needs("cadical")
-    values = shown(formula)
-    assert run(["cadical", "-q", own]).status == (20 if values is None else 10)
-    if values is not None:
-        assert any(values[f"bad@{step}"] == "1" for step in range(2, depth + 1)), values
+    assert {"count@2", "less@1"} <= set(done.out.split())
+    assert not {name.partition("@")[0] for name in done.out.split()} & {"zero", "one"}
+
+
+def test_a_formula_on_standard_output(tmp_path: Path) -> None:
+    needs("yosys")
+    circuit, formula = written(FIFO, tmp_path, "one.v"), tmp_path / "one.cnf"
+    assert run([BMC, circuit, 3, formula]) == Ran("", "", 0)
+    assert run([BMC, circuit, 3, "/dev/stdout"]) == Ran(formula.read_text(), "", 0)
+    assert Path("/dev/stdout").is_symlink()
+
+
+def test_a_circuit_whose_name_begins_with_a_dash(tmp_path: Path) -> None:
+    needs("yosys")
+    written(FIFO, tmp_path, "-w.v")
+    assert run([BMC, "-w.v", 3, "one.cnf"], cwd=tmp_path) == Ran("", "", 0)
+    assert (tmp_path / "one.cnf").exists()
+
+
+def test_a_formula_does_not_replace_its_circuit(tmp_path: Path) -> None:
+    circuit = written(FIFO, tmp_path, "one.v")
+    assert run([BMC, circuit, 3, circuit]) == Ran(
+        "", "verilog2cnf.sh: FORMULA would replace FILE.v\n", 2)
+    assert circuit.read_text() == FIFO
+
+
+# Random circuits with words of two bits: two registers, sometimes a memory of two words, inputs.
+
+Values = Dict[str, int]
+
+
+class Assignment(NamedTuple):
+    text: str
+    assigns: Callable[[Values], int]    # whether it does
+    value: Callable[[Values], int]
+
+
+class Circuit(NamedTuple):
+    text: str
+    at_first: Dict[str, List[int]]      # what a register may hold
+    following: Callable[[Values], Values]
+    is_bad: Callable[[Values], int]
+
+
+def chosen(when: Callable[[Values], int], one: Callable[[Values], int],
+           other: Callable[[Values], int]) -> Callable[[Values], int]:
+    return lambda values: one(values) if when(values) else other(values)
+
+
+def expression(numbers: random.Random, terms: List[Valued], depth: int) -> Valued:
+    """A word of two bits. It is often only a term, so that registers have the same input."""
+    if depth == 0 or numbers.random() < 0.5:
+        return numbers.choice(terms)
+    one, other = (expression(numbers, terms, depth - 1) for _ in range(2))
+    if numbers.random() < 0.3:
+        when, holds = condition(numbers, terms, depth - 1)
+        return f"({when}) ? ({one[0]}) : ({other[0]})", chosen(holds, one[1], other[1])
+    return joined(*numbers.choice(ON_NUMBERS), one, other)
+
+
+def condition(numbers: random.Random, terms: List[Valued], depth: int) -> Valued:
+    if depth == 0 or numbers.random() < 0.5:
+        return named(numbers.choice(["reset", "enable", "enable"]))
+    return compared(numbers, terms, depth - 1)
+
+
+def compared(numbers: random.Random, terms: List[Valued], depth: int) -> Valued:
+    different: Tuple[str, Callable[[int, int], int]] = ("!=", lambda x, y: x != y)
+    return joined(*numbers.choice([*COMPARED, different, different]),
+                  expression(numbers, terms, depth), expression(numbers, terms, depth))
+
+
+def named(name: str) -> Valued:
+    return name, lambda values: values[name]
+
+
+def assignment(numbers: random.Random, place: str, terms: List[Valued]) -> Assignment:
+    """An assignment, perhaps with conditions and other assignments."""
+    text, value = expression(numbers, terms, 2)
+    made = Assignment(f"{place} <= {text};", lambda values: 1, value)
+    for _ in range(numbers.randrange(3)):
+        made = guarded(numbers, place, terms, made)
+    return made
+
+
+def guarded(numbers: random.Random, place: str, terms: List[Valued],
+            inner: Assignment) -> Assignment:
+    when, holds = condition(numbers, terms, 1)
+    if numbers.random() < 0.5:
+        return Assignment(f"if ({when}) {inner.text}",
+                          lambda values: holds(values) and inner.assigns(values), inner.value)
+    text, value = numbers.choice(terms)
+    return Assignment(f"if ({when}) {place} <= {text}; else {inner.text}",
+                      lambda values: holds(values) or inner.assigns(values),
+                      chosen(holds, value, inner.value))
+
+
+def word_at(address: str) -> Valued:
+    """The word of the memory at this register's or input's last bit."""
+    return (f"memory[{address}[0]]",
+            lambda values: values[f"memory[{values[address] & 1}]"])
+
+
+def random_circuit(numbers: random.Random) -> Circuit:
+    has_memory = numbers.random() < 0.4
+    terms = [named("a"), named("b"), named("in"), ("2'd0", lambda values: 0),
+             ("2'd1", lambda values: 1)]
+    if has_memory:
+        terms += [word_at("a"), word_at("in")]
+    every = list(range(ALL + 1))
+    registers = {name: [numbers.choice(every)] if numbers.random() < 0.3 else every
+                 for name in "ab"}
+    words = {f"memory[{k}]": every for k in range(2) if has_memory}
+    if numbers.random() < 0.4:
+        words = {name: [numbers.choice(every)] for name in words}
+    seeds = [numbers.random(), numbers.random()]
+    if numbers.random() < 0.3:
+        seeds[1] = seeds[0]     # the same for both registers
+    assigned = {name: assignment(random.Random(seed), name, terms)
+                for name, seed in zip("ab", seeds)}
+    address = numbers.choice(["a", "in"])
+    stored = assignment(numbers, f"memory[{address}[0]]", terms)
+    bad, is_bad = joined(*CONNECTIVES[0], compared(numbers, terms, 0), compared(numbers, terms, 1))
+
+    def following(values: Values) -> Values:
+        after = {name: made.value(values) if made.assigns(values) else values[name]
+                 for name, made in assigned.items()}
+        for k, name in enumerate(words):
+            is_stored = values[address] & 1 == k and stored.assigns(values)
+            after[name] = stored.value(values) if is_stored else values[name]
+        return after
+    lines = ["module circuit(input clock, input reset, input enable, input [1:0] in,",
+             "               output bad);",
+             *(f"  reg [1:0] {name}{f' = {first[0]}' if len(first) == 1 else ''};"
+               for name, first in registers.items()),
+             *["  reg [1:0] memory [0:1];"] * has_memory,
+             *(f"  initial {name} = {first[0]};"
+               for name, first in words.items() if len(first) == 1),
+             "  always @(posedge clock) begin",
+             *(f"    {made.text}" for made in [*assigned.values(), *[stored] * has_memory]),
+             "  end", f"  assign bad = {bad};", "endmodule"]
+    return Circuit("\n".join(lines) + "\n", {**registers, **words}, following, is_bad)
+
+
+def can_be_bad(circuit: Circuit, depth: int, induction: bool) -> bool:
+    """Whether `bad` can be 1 where bmc.sh asks, by going through all states and inputs."""
+    names = list(circuit.at_first)
+    states = set(itertools.product(*([range(ALL + 1)] * len(names) if induction
+                                     else circuit.at_first.values())))
+    for step in range(1, depth + 1):
+        after = set()
+        for state, reset, enable, value in itertools.product(
+                states, range(2), range(2), range(ALL + 1)):
+            if step == 1 and not induction and not reset:
+                continue
+            values = {**dict(zip(names, state)), "reset": reset, "enable": enable, "in": value}
+            bad = circuit.is_bad(values)
+            if bad and (step == depth if induction else step > 1):
+                return True
+            if not (bad and induction):
+                following = circuit.following(values)
+                after.add(tuple(following[name] for name in names))
+        states = after
+    return False
+
+
+@pytest.mark.seeds(20)
+@pytest.mark.parametrize("induction", [False, True], ids=["from a reset", "induction"])
+def test_random_circuits(seed: int, induction: bool, tmp_path: Path) -> None:
+    """bmc.sh, yosys's own command and a search through all states agree."""
+    needs("yosys")
+    numbers = random.Random(seed)
+    circuit, depth = random_circuit(numbers), numbers.choice([2, 3, 4])
+    file = written(circuit.text, tmp_path, "one.v")
+    wanted = can_be_bad(circuit, depth, induction)
+    assert satisfiable_by_yosys(file, depth, induction) == wanted, circuit.text
+    assert (values_of_bmc(file, depth, induction) is not None) == wanted, circuit.text
