@@ -3,10 +3,8 @@
 # ever differ; they have no registers. Needs `yosys`. Comments name the bits of inputs and of the
 # modules' wires, for show.awk. What is undefined (x) may be 0 or 1 in each module.
 [ $# -eq 2 ] || { echo "usage: miter.sh FILE.v FORMULA" >&2; exit 2; }
-circuit=$(yosys -q -f verilog -p "hierarchy; proc; setundef -undriven -anyseq;
-setattr -set named 1 w:* w:\$* %d i:* %d; miter -equiv -flatten one other miter;
-hierarchy -top miter; flatten; expose a:named; techmap; opt; dffunmap; aigmap;
-write_aiger -ascii -symbols" -- "$1") || exit
-printf '%s\n' "$circuit" |
-    sed '/^o.* gold_/d; /^o.* gate_/d; s/ in_/ /; s/ gold\./ one./; s/ gate\./ other./' |
-    awk -v output=trigger -f "$(dirname "$0")/../aiger2cnf.awk" > "$2"
+exec "$(dirname "$0")/../verilog2cnf.sh" "$1" "$2" 'hierarchy; proc -noopt; setundef -undriven -anyseq;
+setattr -set named 1 w:* w:$* %d i:* %d; miter -equiv -flatten one other miter;
+hierarchy -top miter; flatten; expose a:named' \
+    '/^o.* gold_/d; /^o.* gate_/d; s/ in_/ /; s/ gold\./ one./; s/ gate\./ other./' \
+    -v output=trigger
