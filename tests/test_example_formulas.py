@@ -10,11 +10,11 @@ import random
 import re
 import sys
 from pathlib import Path
-from typing import Any, Callable, Dict, List, Optional, Tuple
+from typing import Any, Callable, Dict, List, NamedTuple, Optional, Tuple
 
 import pytest
 
-from harness import EXAMPLES, lacking, needs, run, written
+from harness import EXAMPLES, Ran, lacking, needs, run, written
 
 SMT, LEMMA = EXAMPLES / "smt" / "smt2cnf.py", EXAMPLES / "lemma" / "lemma.py"
 BMC, SHOW = EXAMPLES / "fifo" / "bmc.sh", EXAMPLES / "show.awk"
@@ -211,26 +211,293 @@ SHIFTED = """module shifted(input clock, input reset, input in, output bad);
   assign bad = began && last == 5;
 endmodule
 """
+# Registers that may hold anything at first, unless the circuit says what they hold.
+ENABLED = """module enabled(input clock, input reset, input enable, output bad);
+  reg a;
+  always @(posedge clock) if (enable) a <= 1;
+  assign bad = !a;
+endmodule
+"""
+TWINS = """module twins(input clock, input reset, input enable, input in, output bad);
+  reg a, b;
+  always @(posedge clock) if (enable) begin a <= in; b <= in; end
+  assign bad = a != b;
+endmodule
+"""
+DELAYED = """module delayed(input clock, input reset, output bad);
+  reg a, b;
+  always @(posedge clock) begin a <= 1; b <= a; end
+  assign bad = !b;
+endmodule
+"""
+DELAYED_TWINS = """module delayed_twins(input clock, input reset, input in, output bad);
+  reg a, b, differ;
+  always @(posedge clock) begin a <= in; b <= in; differ <= a ^ b; end
+  assign bad = differ;
+endmodule
+"""
+COMPARED_ENABLES = """module one(input clock, input enable, input in, output reg data);
+  always @(posedge clock) if (enable) data <= in;
+endmodule
+module other(input clock, input enable, input in, output reg data);
+  always @(posedge clock) data <= enable ? in : data;
+endmodule
+module compared(input clock, input reset, input enable, input in, output bad);
+  wire a, b;
+  one first(clock, enable, in, a);
+  other second(clock, enable, in, b);
+  assign bad = a != b;
+endmodule
+"""
+CREDITS = """module credits(input clock, input reset, input less, input more, output bad);
+  reg [2:0] count;
+  always @(posedge clock)
+    if (reset) count <= 0;
+    else begin
+      if (less) count <= count - 1;
+      if (more) count <= count + 1;
+    end
+  assign bad = count == 7;
+endmodule
+"""
+BEGUN = """module begun(input clock, input reset, output bad);
+  reg [3:0] count = 0;
+  always @(posedge clock) if (reset) count <= 0; else count <= count + 1;
+  assign bad = count == 12;
+endmodule
+"""
+TABLE = """module table(input clock, input reset, input [1:0] in, output bad);
+  reg [1:0] memory [0:3];
+  reg [1:0] at;
+  initial begin memory[0] = 1; memory[1] = 2; memory[2] = 1; memory[3] = 2; end
+  always @(posedge clock) at <= in;
+  assign bad = memory[at] == 3 - FIRST;
+endmodule
+"""
+BEYOND = """module beyond(input clock, input reset, input [1:0] at, input [2:0] in, output bad);
+  reg last;
+  always @(posedge clock) last <= in[at];
+  assign bad = last && at == 3 && in == 0;
+endmodule
+"""
 CIRCUITS = {"a queue": FIFO, "a queue without a limit": FIFO.replace("push && !full", "push"),
             "a queue without a lower limit": FIFO.replace("pop && !empty", "pop"),
             "a shift register": SHIFTED, "a shift register with 1s":
-            SHIFTED.replace("began = 0", "began = 1").replace("last == 5", "last[0]")}
+            SHIFTED.replace("began = 0", "began = 1").replace("last == 5", "last[0]"),
+            "a register that only ever gets a 1": ENABLED,
+            "two registers with the same input": TWINS,
+            "two registers with the same initial value and input":
+            TWINS.replace("a, b", "a = 0, b = 0"),
+            "a register that gets a 1 a step later": DELAYED,
+            "the difference of two registers with the same input": DELAYED_TWINS,
+            "two modules with registers without a reset": COMPARED_ENABLES,
+            "a counter with two assignments": CREDITS,
+            "a counter at a falling edge": CREDITS.replace("posedge", "negedge"),
+            "an asynchronous reset": CREDITS.replace("clock)", "clock or posedge reset)"),
+            "a counter that begins at 0": BEGUN, "a table": TABLE.replace("FIRST", "0"),
+            "a table with 2s": TABLE.replace("FIRST", "1"), "a bit beyond a word's end": BEYOND}
+EVERY_CIRCUIT = [pytest.param(text, id=name) for name, text in CIRCUITS.items()]
 
 
-@pytest.mark.parametrize("depth", range(2, 9))
-@pytest.mark.parametrize("text", [pytest.param(text, id=name) for name, text in CIRCUITS.items()])
+def satisfiable_by_yosys(circuit: Path, depth: int, induction: bool) -> bool:
+    """Whether the formula of yosys's own command `sat` is, without any pass that simplifies. What
+    is undefined may be 0 or 1."""
+    own = circuit.with_name("own.cnf")
+    own.unlink(missing_ok=True)
+    asked = (f"-prove-skip {depth - 1} " + " ".join(f"-set-at {step} bad 0"
+                                                    for step in range(1, depth))
+             if induction else "-prove-skip 1 -set-at 1 reset 1")
+    script = ("hierarchy -auto-top; proc -norom; async2sync; memory_collect; memory_map -keepdc; "
+              "flatten; setundef -undriven -anyseq; techmap; setundef -undriven -anyseq; "
+              f"{'setattr -unset init w:*; ' if induction else ''}"
+              f"sat -timeout 1 -seq {depth} -prove bad 0 {asked} -dump_cnf {own}")
+    done = run(["yosys", "-q", "-f", "verilog", "-p", script, circuit])
+    assert own.exists(), done
+    needs("cadical")
+    return run(["cadical", "-q", own]).status == 10
+
+
+def values_of_bmc(circuit: Path, depth: int, induction: bool) -> Optional[Dict[str, str]]:
+    """The bits of each wire in each step, in an assignment of the formula of bmc.sh, if it has one.
+    Then `bad` is 1 where it was asked for."""
+    formula = circuit.with_name("one.cnf")
+    done = run([BMC, *["--induction"] * induction, circuit, depth, formula])
+    assert done == Ran("", "", 0)
+    values = shown(formula)
+    if values is not None:
+        found = [values[f"bad@{step}"] for step in range(1, depth + 1)]
+        assert found == ["0"] * (depth - 1) + ["1"] if induction else "1" in found[1:], values
+    return values
+
+
+@pytest.mark.parametrize("depth", [2, 3, 4, 8])
+@pytest.mark.parametrize("text", EVERY_CIRCUIT)
 def test_bounded_model_checking(text: str, depth: int, tmp_path: Path) -> None:
     """The formula of bmc.sh is satisfiable if the one of yosys's own command `sat` is."""
     needs("yosys")
     circuit = written(text, tmp_path, "one.v")
-    formula, own = tmp_path / "one.cnf", tmp_path / "own.cnf"
-    done = run([BMC, circuit, depth, formula])
-    assert (done.err, done.status) == ("", 0)
-    script = (f"hierarchy -auto-top; proc; memory; flatten; techmap; opt; sat -timeout 1 -seq "
-              f"{depth} -set-at 1 reset 1 -prove bad 0 -prove-skip 1 -dump_cnf {own}")
-    run(["yosys", "-q", "-f", "verilog", "-p", script, circuit])
-    needs("cadical")
-    values = shown(formula)
-    assert run(["cadical", "-q", own]).status == (20 if values is None else 10)
-    if values is not None:
-        assert any(values[f"bad@{step}"] == "1" for step in range(2, depth + 1)), values
+    values = values_of_bmc(circuit, depth, induction=False)
+    assert (values is not None) == satisfiable_by_yosys(circuit, depth, induction=False)
+
+
+@pytest.mark.parametrize("depth", [2, 3])
+@pytest.mark.parametrize("text", EVERY_CIRCUIT)
+def test_induction(text: str, depth: int, tmp_path: Path) -> None:
+    """The same with --induction. Registers may hold anything at first."""
+    needs("yosys")
+    circuit = written(text, tmp_path, "one.v")
+    values = values_of_bmc(circuit, depth, induction=True)
+    assert (values is not None) == satisfiable_by_yosys(circuit, depth, induction=True)
+
+
+# Random circuits with words of two bits: two registers, sometimes a memory of two words, inputs.
+
+Values = Dict[str, int]
+
+
+class Assignment(NamedTuple):
+    text: str
+    assigns: Callable[[Values], int]    # whether it does
+    value: Callable[[Values], int]
+
+
+class Circuit(NamedTuple):
+    text: str
+    at_first: Dict[str, List[int]]      # what a register may hold
+    following: Callable[[Values], Values]
+    is_bad: Callable[[Values], int]
+
+
+def chosen(when: Callable[[Values], int], one: Callable[[Values], int],
+           other: Callable[[Values], int]) -> Callable[[Values], int]:
+    return lambda values: one(values) if when(values) else other(values)
+
+
+def expression(numbers: random.Random, terms: List[Valued], depth: int) -> Valued:
+    """A word of two bits. It is often only a term, so that registers have the same input."""
+    if depth == 0 or numbers.random() < 0.5:
+        return numbers.choice(terms)
+    one, other = (expression(numbers, terms, depth - 1) for _ in range(2))
+    if numbers.random() < 0.3:
+        when, holds = condition(numbers, terms, depth - 1)
+        return f"({when}) ? ({one[0]}) : ({other[0]})", chosen(holds, one[1], other[1])
+    return joined(*numbers.choice(ON_NUMBERS), one, other)
+
+
+def condition(numbers: random.Random, terms: List[Valued], depth: int) -> Valued:
+    if depth == 0 or numbers.random() < 0.5:
+        return named(numbers.choice(["reset", "enable", "enable"]))
+    return compared(numbers, terms, depth - 1)
+
+
+def compared(numbers: random.Random, terms: List[Valued], depth: int) -> Valued:
+    different: Tuple[str, Callable[[int, int], int]] = ("!=", lambda x, y: x != y)
+    return joined(*numbers.choice([*COMPARED, different, different]),
+                  expression(numbers, terms, depth), expression(numbers, terms, depth))
+
+
+def named(name: str) -> Valued:
+    return name, lambda values: values[name]
+
+
+def assignment(numbers: random.Random, place: str, terms: List[Valued]) -> Assignment:
+    """An assignment, perhaps with conditions and other assignments."""
+    text, value = expression(numbers, terms, 2)
+    made = Assignment(f"{place} <= {text};", lambda values: 1, value)
+    for _ in range(numbers.randrange(3)):
+        made = guarded(numbers, place, terms, made)
+    return made
+
+
+def guarded(numbers: random.Random, place: str, terms: List[Valued],
+            inner: Assignment) -> Assignment:
+    when, holds = condition(numbers, terms, 1)
+    if numbers.random() < 0.5:
+        return Assignment(f"if ({when}) {inner.text}",
+                          lambda values: holds(values) and inner.assigns(values), inner.value)
+    text, value = numbers.choice(terms)
+    return Assignment(f"if ({when}) {place} <= {text}; else {inner.text}",
+                      lambda values: holds(values) or inner.assigns(values),
+                      chosen(holds, value, inner.value))
+
+
+def word_at(address: str) -> Valued:
+    """The word of the memory at this register's or input's last bit."""
+    return (f"memory[{address}[0]]",
+            lambda values: values[f"memory[{values[address] & 1}]"])
+
+
+def random_circuit(numbers: random.Random) -> Circuit:
+    has_memory = numbers.random() < 0.4
+    terms = [named("a"), named("b"), named("in"), ("2'd0", lambda values: 0),
+             ("2'd1", lambda values: 1)]
+    if has_memory:
+        terms += [word_at("a"), word_at("in")]
+    every = list(range(ALL + 1))
+    registers = {name: [numbers.choice(every)] if numbers.random() < 0.3 else every
+                 for name in "ab"}
+    words = {f"memory[{k}]": every for k in range(2) if has_memory}
+    if numbers.random() < 0.4:
+        words = {name: [numbers.choice(every)] for name in words}
+    seeds = [numbers.random(), numbers.random()]
+    if numbers.random() < 0.3:
+        seeds[1] = seeds[0]     # the same for both registers
+    assigned = {name: assignment(random.Random(seed), name, terms)
+                for name, seed in zip("ab", seeds)}
+    address = numbers.choice(["a", "in"])
+    stored = assignment(numbers, f"memory[{address}[0]]", terms)
+    bad, is_bad = joined(*CONNECTIVES[0], compared(numbers, terms, 0), compared(numbers, terms, 1))
+
+    def following(values: Values) -> Values:
+        after = {name: made.value(values) if made.assigns(values) else values[name]
+                 for name, made in assigned.items()}
+        for k, name in enumerate(words):
+            is_stored = values[address] & 1 == k and stored.assigns(values)
+            after[name] = stored.value(values) if is_stored else values[name]
+        return after
+    lines = ["module circuit(input clock, input reset, input enable, input [1:0] in,",
+             "               output bad);",
+             *(f"  reg [1:0] {name}{f' = {first[0]}' if len(first) == 1 else ''};"
+               for name, first in registers.items()),
+             *["  reg [1:0] memory [0:1];"] * has_memory,
+             *(f"  initial {name} = {first[0]};"
+               for name, first in words.items() if len(first) == 1),
+             "  always @(posedge clock) begin",
+             *(f"    {made.text}" for made in [*assigned.values(), *[stored] * has_memory]),
+             "  end", f"  assign bad = {bad};", "endmodule"]
+    return Circuit("\n".join(lines) + "\n", {**registers, **words}, following, is_bad)
+
+
+def can_be_bad(circuit: Circuit, depth: int, induction: bool) -> bool:
+    """Whether `bad` can be 1 where bmc.sh asks, by going through all states and inputs."""
+    names = list(circuit.at_first)
+    states = set(itertools.product(*([range(ALL + 1)] * len(names) if induction
+                                     else circuit.at_first.values())))
+    for step in range(1, depth + 1):
+        after = set()
+        for state, reset, enable, value in itertools.product(
+                states, range(2), range(2), range(ALL + 1)):
+            if step == 1 and not induction and not reset:
+                continue
+            values = {**dict(zip(names, state)), "reset": reset, "enable": enable, "in": value}
+            bad = circuit.is_bad(values)
+            if bad and (step == depth if induction else step > 1):
+                return True
+            if not (bad and induction):
+                following = circuit.following(values)
+                after.add(tuple(following[name] for name in names))
+        states = after
+    return False
+
+
+@pytest.mark.seeds(20)
+@pytest.mark.parametrize("induction", [False, True], ids=["from a reset", "induction"])
+def test_random_circuits(seed: int, induction: bool, tmp_path: Path) -> None:
+    """bmc.sh, yosys's own command and a search through all states agree."""
+    needs("yosys")
+    numbers = random.Random(seed)
+    circuit, depth = random_circuit(numbers), numbers.choice([2, 3, 4])
+    file = written(circuit.text, tmp_path, "one.v")
+    wanted = can_be_bad(circuit, depth, induction)
+    assert satisfiable_by_yosys(file, depth, induction) == wanted, circuit.text
+    assert (values_of_bmc(file, depth, induction) is not None) == wanted, circuit.text
