@@ -17,7 +17,8 @@ import pytest
 from harness import EXAMPLES, Ran, lacking, needs, run, written
 
 SMT, LEMMA = EXAMPLES / "smt" / "smt2cnf.py", EXAMPLES / "lemma" / "lemma.py"
-BMC, SHOW = EXAMPLES / "fifo" / "bmc.sh", EXAMPLES / "show.awk"
+BMC, MITER = EXAMPLES / "fifo" / "bmc.sh", EXAMPLES / "miter" / "miter.sh"
+SHOW = EXAMPLES / "show.awk"
 PROBLEMS = 50   # of a seed
 
 
@@ -348,6 +349,158 @@ def test_induction(text: str, depth: int, tmp_path: Path) -> None:
     circuit = written(text, tmp_path, "one.v")
     values = values_of_bmc(circuit, depth, induction=True)
     assert (values is not None) == satisfiable_by_yosys(circuit, depth, induction=True)
+
+
+# Circuits that the scripts refuse, and what is known of a formula.
+
+TWO_CLOCKS = """module clocks(input clock, input another, input reset, input in, output bad);
+  reg a, b, late;
+  always @(posedge clock) begin a <= in; b <= a; end
+  always @(posedge another) late <= a;
+  assign bad = late != b;
+endmodule
+"""
+DRIVEN = """module driven(input clock, input reset, input a, input b, output bad);
+  wire w;
+  assign w = a;
+  assign w = b;
+  assign bad = a != b;
+endmodule
+"""
+DRIVEN_BY_BLOCKS = """module driven(input clock, input reset, input a, input b, output bad);
+  reg last, other;
+  always @(posedge clock) last <= a;
+  always @(posedge clock) last <= b;
+  always @(posedge clock) other <= a;
+  assign bad = last != other;
+endmodule
+"""
+INPUT_OF_A_PART = """module part(input a, output b);
+  assign a = 0;
+  assign b = a;
+endmodule
+module driven(input clock, input reset, input a, output bad);
+  part only(a, b);
+  assign bad = a;
+endmodule
+"""
+LOOP = """module loop(input clock, input reset, input a, output bad);
+  wire w;
+  assign w = !(w && a);
+  assign bad = w;
+endmodule
+"""
+CLOCKS, DRIVERS = "Assertion failed: selection ", "multiple conflicting drivers for "
+REFUSED = {
+    "two clocks": (TWO_CLOCKS, CLOCKS + "contains 2 elements"),
+    "both edges of a clock": (TWO_CLOCKS.replace("posedge another", "negedge clock"),
+                              CLOCKS + "is not empty: @clocks_with_both_edges"),
+    "a gated clock": (TWO_CLOCKS.replace("edge clock", "edge gated").replace("edge another",
+                      "edge gated").replace("reg a", "wire gated = clock && reset; reg a"),
+                      CLOCKS + "is not empty: @clocks_that_are_no_inputs"),
+    "two clocks in a word": (TWO_CLOCKS.replace("clock,", "[1:0] clock,").replace(
+        "edge clock", "edge clock[0]").replace("edge another", "edge clock[1]"),
+                             CLOCKS + "is not empty: @clocks_of_several_bits"),
+    "two inputs at a wire": (DRIVEN, DRIVERS),
+    "an input and a constant at a wire": (DRIVEN.replace("w = b", "w = 0"), DRIVERS),
+    "two constants at a wire": (DRIVEN.replace("w = a", "w = 1").replace("w = b", "w = 0"),
+                                DRIVERS),
+    "a register with two blocks": (DRIVEN_BY_BLOCKS, DRIVERS),
+    "a part that drives its input": (INPUT_OF_A_PART, DRIVERS),
+    "a loop": (LOOP, "found logic loop"),
+    "a loop of one gate": (LOOP.replace("(w && a)", "w"), "found logic loop"),
+    "no Verilog": ("module\n", "syntax error"),
+    "no output": (LOOP.replace("bad", "good").replace("w && a", "a"), "no output bad")}
+ONE = """module one(input a, input b, output c);
+  assign c = a;
+endmodule
+"""
+
+
+def check_refused(script: Path, words: List[object], text: str, said: str, folder: Path) -> None:
+    """Nothing is left in the folder, not even an older formula."""
+    circuit, formula = written(text, folder, "one.v"), folder / "one.cnf"
+    for old in ("", "p cnf 1 2\n1 0\n-1 0\n"):
+        if old:
+            formula.write_text(old)
+        done = run([script, circuit, *words, formula])
+        assert (done.out, done.status) == ("", 1)
+        assert said in done.err
+        assert list(folder.iterdir()) == [circuit]
+
+
+@pytest.mark.parametrize("text, said", [pytest.param(*row, id=name)
+                                        for name, row in REFUSED.items()])
+def test_bmc_refuses_a_circuit(text: str, said: str, tmp_path: Path) -> None:
+    needs("yosys")
+    check_refused(BMC, [3], text, said, tmp_path)
+
+
+@pytest.mark.parametrize("text, said", [
+    pytest.param("  wire w;\n  assign w = a;\n  assign w = b;\n  assign c = a;\n", DRIVERS,
+                 id="two inputs at a wire"),
+    pytest.param("  wire w;\n  assign w = !w;\n  assign c = a;\n", "found logic loop",
+                 id="a loop"),
+    pytest.param("  reg last;\n  always @(posedge b) last <= 1;\n  assign c = a & last;\n",
+                 "a circuit with registers", id="a register that only ever gets a 1"),
+    pytest.param("  reg last;\n  always @* if (b) last = a;\n  assign c = last;\n", "_DLATCH_",
+                 id="a latch")])
+def test_miter_refuses_a_circuit(text: str, said: str, tmp_path: Path) -> None:
+    needs("yosys")
+    check_refused(MITER, [], ONE + ONE.replace("one", "other").replace("  assign c = a;\n", text),
+                  said, tmp_path)
+
+
+def test_a_register_that_nothing_reads_has_a_name(tmp_path: Path) -> None:
+    needs("yosys")
+    text = CREDITS.replace("bad = count == 7", "bad = count == 1").replace(
+        "  reg", "  reg seen;\n  always @(posedge clock) if (more) seen <= 1;\n  reg")
+    values = values_of_bmc(written(text, tmp_path, "one.v"), 3, induction=False)
+    assert values is not None
+    assert {f"seen@{step}" for step in (1, 2, 3)} <= set(values)
+
+
+TIED = CREDITS.replace("output bad);", "output bad);\n  wire [7:0] zero = 8'h00;\n  wire one = 1;")
+
+
+def test_a_core_has_no_tied_wires(tmp_path: Path) -> None:
+    """Not even one with the clause for constants."""
+    needs("yosys")
+    circuit, formula = written(TIED.replace("== 7", "== 1"), tmp_path, "one.v"), tmp_path / "one.cnf"
+    values = values_of_bmc(circuit, 3, induction=False)
+    assert values is not None
+    assert (values["zero@2"], values["one@2"]) == ("00000000", "1")
+    lines = formula.read_text().splitlines(keepends=True)
+    tied = next(abs(int(line.split()[2])) for line in lines if line.startswith("c one@2 "))
+    assert [line for line in lines if line[0] not in "cp" and str(tied) in
+            line.replace("-", "").split()[:-1]] == [f"-{tied} 0\n"]
+    core = written("".join(line for line in lines if line != f"-{tied} 0\n"), tmp_path, "core")
+    done = run([SHOW, formula, core])
+    assert (done.err, done.status) == ("", 0)
+    assert {"count@2", "less@1"} <= set(done.out.split())
+    assert not {name.partition("@")[0] for name in done.out.split()} & {"zero", "one"}
+
+
+def test_a_formula_on_standard_output(tmp_path: Path) -> None:
+    needs("yosys")
+    circuit, formula = written(FIFO, tmp_path, "one.v"), tmp_path / "one.cnf"
+    assert run([BMC, circuit, 3, formula]) == Ran("", "", 0)
+    assert run([BMC, circuit, 3, "/dev/stdout"]) == Ran(formula.read_text(), "", 0)
+    assert Path("/dev/stdout").is_symlink()
+
+
+def test_a_circuit_whose_name_begins_with_a_dash(tmp_path: Path) -> None:
+    needs("yosys")
+    written(FIFO, tmp_path, "-w.v")
+    assert run([BMC, "-w.v", 3, "one.cnf"], cwd=tmp_path) == Ran("", "", 0)
+    assert (tmp_path / "one.cnf").exists()
+
+
+def test_a_formula_does_not_replace_its_circuit(tmp_path: Path) -> None:
+    circuit = written(FIFO, tmp_path, "one.v")
+    assert run([BMC, circuit, 3, circuit]) == Ran(
+        "", "verilog2cnf.sh: FORMULA would replace FILE.v\n", 2)
+    assert circuit.read_text() == FIFO
 
 
 # Random circuits with words of two bits: two registers, sometimes a memory of two words, inputs.

@@ -4,7 +4,7 @@
 # modules' wires, for show.awk. What is undefined (x) may be 0 or 1 in each module.
 [ $# -eq 2 ] || { echo "usage: miter.sh FILE.v FORMULA" >&2; exit 2; }
 exec "$(dirname "$0")/../verilog2cnf.sh" "$1" "$2" 'hierarchy; proc -noopt; setundef -undriven -anyseq;
-setattr -set named 1 w:* w:$* %d i:* %d; miter -equiv -flatten one other miter;
+setattr -set named 1 w:* w:$* %d i:* %d; miter -equiv one other miter;
 hierarchy -top miter; flatten; expose a:named' \
     '/^o.* gold_/d; /^o.* gate_/d; s/ in_/ /; s/ gold\./ one./; s/ gate\./ other./' \
     -v output=trigger
