@@ -310,6 +310,8 @@ CIRCUITS = {"a queue": FIFO, "a queue without a limit": FIFO.replace("push && !f
             "an asynchronous reset": CREDITS.replace("clock)", "clock or posedge reset)"),
             "a counter that begins at 0": BEGUN, "a table": TABLE.replace("FIRST", "0"),
             "a table with 2s": TABLE.replace("FIRST", "1"), "a bit beyond a word's end": BEYOND,
+            "a register that nothing assigns": ENABLED.replace("reg a", "reg a = 1").replace(
+                "  always @(posedge clock) if (enable) a <= 1;\n", ""),
             "an active-low reset and inputs that are excluded": AROUND.replace("LAST", "2"),
             "a number that excluded inputs would reach": AROUND.replace("LAST", "7")}
 EVERY_CIRCUIT = [pytest.param(text, id=name) for name, text in CIRCUITS.items()]
@@ -560,9 +562,11 @@ def condition(numbers: random.Random, terms: List[Valued], depth: int) -> Valued
 
 
 def compared(numbers: random.Random, terms: List[Valued], depth: int) -> Valued:
+    """Not of two constants: to yosys a register that is then never assigned is a constant, too."""
     different: Tuple[str, Callable[[int, int], int]] = ("!=", lambda x, y: x != y)
-    return joined(*numbers.choice([*COMPARED, different, different]),
-                  expression(numbers, terms, depth), expression(numbers, terms, depth))
+    two = [numbers.choice(terms[:3]), expression(numbers, terms, depth)]
+    numbers.shuffle(two)
+    return joined(*numbers.choice([*COMPARED, different, different]), *two)
 
 
 def named(name: str) -> Valued:
