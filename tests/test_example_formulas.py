@@ -281,6 +281,19 @@ BEYOND = """module beyond(input clock, input reset, input [1:0] at, input [2:0] 
   assign bad = last && at == 3 && in == 0;
 endmodule
 """
+AROUND = """module inner(input clk, input rst_n, input less, input more, output reg [2:0] count);
+  always @(posedge clk)
+    if (!rst_n) count <= 0;
+    else count <= count + more - less;
+endmodule
+module around(input clk, input reset, input less, input more, output bad);
+  wire [2:0] count;
+  inner only(.clk(clk), .rst_n(!reset), .less(less), .more(more), .count(count));
+  reg came;
+  always @(posedge clk) came <= !reset && (came || less);
+  assign bad = count == LAST && !came && !less;
+endmodule
+"""
 CIRCUITS = {"a queue": FIFO, "a queue without a limit": FIFO.replace("push && !full", "push"),
             "a queue without a lower limit": FIFO.replace("pop && !empty", "pop"),
             "a shift register": SHIFTED, "a shift register with 1s":
@@ -296,7 +309,11 @@ CIRCUITS = {"a queue": FIFO, "a queue without a limit": FIFO.replace("push && !f
             "a counter at a falling edge": CREDITS.replace("posedge", "negedge"),
             "an asynchronous reset": CREDITS.replace("clock)", "clock or posedge reset)"),
             "a counter that begins at 0": BEGUN, "a table": TABLE.replace("FIRST", "0"),
-            "a table with 2s": TABLE.replace("FIRST", "1"), "a bit beyond a word's end": BEYOND}
+            "a table with 2s": TABLE.replace("FIRST", "1"), "a bit beyond a word's end": BEYOND,
+            "a register that nothing assigns": ENABLED.replace("reg a", "reg a = 1").replace(
+                "  always @(posedge clock) if (enable) a <= 1;\n", ""),
+            "an active-low reset and inputs that are excluded": AROUND.replace("LAST", "2"),
+            "a number that excluded inputs would reach": AROUND.replace("LAST", "7")}
 EVERY_CIRCUIT = [pytest.param(text, id=name) for name, text in CIRCUITS.items()]
 
 
@@ -466,7 +483,8 @@ TIED = CREDITS.replace("output bad);", "output bad);\n  wire [7:0] zero = 8'h00;
 def test_a_core_has_no_tied_wires(tmp_path: Path) -> None:
     """Not even one with the clause for constants."""
     needs("yosys")
-    circuit, formula = written(TIED.replace("== 7", "== 1"), tmp_path, "one.v"), tmp_path / "one.cnf"
+    circuit = written(TIED.replace("== 7", "== 1"), tmp_path, "one.v")
+    formula = tmp_path / "one.cnf"
     values = values_of_bmc(circuit, 3, induction=False)
     assert values is not None
     assert (values["zero@2"], values["one@2"]) == ("00000000", "1")
@@ -544,9 +562,11 @@ def condition(numbers: random.Random, terms: List[Valued], depth: int) -> Valued
 
 
 def compared(numbers: random.Random, terms: List[Valued], depth: int) -> Valued:
+    """Not of two constants: to yosys a register that is then never assigned is a constant, too."""
     different: Tuple[str, Callable[[int, int], int]] = ("!=", lambda x, y: x != y)
-    return joined(*numbers.choice([*COMPARED, different, different]),
-                  expression(numbers, terms, depth), expression(numbers, terms, depth))
+    two = [numbers.choice(terms[:3]), expression(numbers, terms, depth)]
+    numbers.shuffle(two)
+    return joined(*numbers.choice([*COMPARED, different, different]), *two)
 
 
 def named(name: str) -> Valued:
