@@ -340,7 +340,8 @@ class KeptProof {
     // How many bytes it reads from this position on; 0 at the end.
     ssize_t read_at(uint64_t position, char *bytes, size_t length) const {
         uint64_t left = file < 0 ? 0 : status.proof_kept - position;
-        return left == 0 ? 0 : pread(file, bytes, std::min<uint64_t>(length, left), off_t(position));
+        return left == 0 ? 0
+                         : pread(file, bytes, std::min<uint64_t>(length, left), off_t(position));
     }
 
   private:
@@ -354,7 +355,8 @@ class KeptProof {
 static int open_proof(const Proof &proof, Unpacking &unpacking) {
     if (proof.file >= 0) return proof.file;
     bool is_packed = proof.path != "-" && packer_of(proof.path.c_str());
-    return is_packed ? unpacking_open(&unpacking, proof.path.c_str()) : open_if_possible(proof.path);
+    return is_packed ? unpacking_open(&unpacking, proof.path.c_str())
+                     : open_if_possible(proof.path);
 }
 
 // Copies a proof, beginning with what was kept of it. Ends once no filter is left: all that it has
