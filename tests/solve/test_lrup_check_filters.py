@@ -12,7 +12,7 @@ import subprocess
 import threading
 import time
 from pathlib import Path
-from typing import Any, Iterator, List, Mapping, Tuple
+from typing import Any, Dict, Iterator, List, Mapping, Tuple, Union
 
 import pytest
 
@@ -138,9 +138,13 @@ def check_once(way: str, words: List[object], formula: Path, proof: Path, tested
     data = proof.read_bytes()
     if way.startswith("a FIFO"):
         pipe = piped(proof.with_name("pipe"))
-        size = max(1, len(data) // 20) if "pauses" in way else len(data)
-        feed(pipe, [part for k in range(0, len(data), size or 1)
-                    for part in (data[k:k + size], 0.01)] or [b""])
+        pieces: List[Union[bytes, float]] = [data]
+        if "pauses" in way:
+            size = len(data) // 20 + 1
+            pieces.clear()
+            for k in range(0, len(data), size):
+                pieces += [data[k:k + size], 0.01]
+        feed(pipe, pieces)
         return check([*words, formula, pipe], tested=tested, **how)
     if way == "standard input":
         return check([*words, formula, "-"], tested=tested, given=data, **how)

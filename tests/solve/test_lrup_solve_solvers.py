@@ -501,33 +501,34 @@ def test_a_wrong_solver_of_several_filters(command: str, cause: str, tmp_path: P
     assert "urandom" in command or said(answers[1]) == said(answers[0])
 
 
-def slow(work: Path, command: str, pause: float) -> str:
-    """A solver that writes its proof in pieces, with a pause before the last one."""
-    program = written(f"""#!/usr/bin/env python3
+SLOW = """#!/usr/bin/env python3
 import subprocess, sys, time
-data = subprocess.run(["sh", "-c", sys.argv[3].replace("F", sys.argv[1]).replace("P", "/dev/stdout")],
-                      stdout=subprocess.PIPE).stdout
-with open(sys.argv[2], "wb", buffering=0) as proof:
+formula, proof, pause = sys.argv[1:]
+words = ["cadical", "-q", formula, "/dev/stdout"]
+data = subprocess.run(words, stdout=subprocess.PIPE).stdout
+with open(proof, "wb", buffering=0) as pipe:
     for k in range(0, len(data), 1000):
-        proof.write(data[k:k + 1000])
+        pipe.write(data[k:k + 1000])
         time.sleep(0.002)
         if k // 1000 == len(data) // 2000:
-            time.sleep({pause})
+            time.sleep(float(pause))
 sys.exit(20)
-""", work, "slow")
+"""
+
+
+def slow(work: Path, pause: float) -> str:
+    """A solver that writes CaDiCaL's proof in pieces, with a pause in the middle."""
+    needs("cadical")
+    program = written(SLOW, work, "slow")
     program.chmod(0o755)
-    return f"{program} %formula %proof '{command}'"
-
-
-SLOWLY = "cadical -q F P"
+    return f"{program} %formula %proof {pause}"
 
 
 def test_rounds_end_early(tmp_path: Path) -> None:
     """A round ends although its row isn't full, also while the solver writes nothing."""
-    needs("cadical")
     formula, kept = given("random 170 4", tmp_path), tmp_path / "kept"
     answer = solve(["-v", "--proofs", kept, "--save-every", "0.2",
-                    *by_filters(3, slow(tmp_path, SLOWLY, 1)), formula], tested={"WINDOW": 7})
+                    *by_filters(3, slow(tmp_path, 1)), formula], tested={"WINDOW": 7})
     want_answer(answer, 20)
     assert answer.lost() == []
     assert sum(line.startswith("round ") for line in answer.comments) >= 3, answer.out
@@ -537,9 +538,8 @@ def test_rounds_end_early(tmp_path: Path) -> None:
 @pytest.mark.parametrize("filters", [(3, 3), (3, 1), (1, 3), (2, 5)])
 def test_resumed_by_several_filters(filters: Tuple[int, int], tmp_path: Path) -> None:
     """A run is ended, saves its last round, and is resumed with another number of filters."""
-    needs("cadical")
     mark, formula, kept = marked(tmp_path), given("random 170 4", tmp_path), tmp_path / "kept"
-    words = [*by_filters(filters[0], slow(tmp_path, SLOWLY, 60)), "--proofs", kept, formula]
+    words = [*by_filters(filters[0], slow(tmp_path, 60)), "--proofs", kept, formula]
     with started(command_of(words, {"WINDOW": 7}), env=in_environment({"WINDOW": 7}),
                  stdout=subprocess.PIPE, text=True) as running:
         until("there is a stream", lambda: any(path.stat().st_size > 10000
@@ -559,9 +559,8 @@ def test_resumed_by_several_filters(filters: Tuple[int, int], tmp_path: Path) ->
 def test_killed_with_several_filters(whom: str, tmp_path: Path) -> None:
     """Another filter takes the whole proof from one that is killed. Without the process that copies
     the proof, or the solver's, there is no answer."""
-    needs("cadical")
     mark, formula, kept = marked(tmp_path), given("random 170 4", tmp_path), tmp_path / "kept"
-    words = ["-v", *by_filters(3, slow(tmp_path, SLOWLY, 3)), "--proofs", kept, formula]
+    words = ["-v", *by_filters(3, slow(tmp_path, 3)), "--proofs", kept, formula]
     with started(command_of(words, {"WINDOW": 7}), env=in_environment({"WINDOW": 7}),
                  stdout=subprocess.PIPE, text=True) as running:
         until("there is a stream", lambda: any(path.stat().st_size > 100000
