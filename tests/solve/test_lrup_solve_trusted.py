@@ -1,7 +1,7 @@
 """Leaves out, one by one, each line of lrup-solve's front that is marked as trusted.
 
 A hostile program gets a wrong answer from each front that lacks such a line, but none from the
-whole front. Nightly rows leave out each statement without a marked line, and try all those
+whole front. Nightly tests leave out each statement without a marked line, and try all those
 programs: there is no wrong answer."""
 import contextlib
 import functools
@@ -18,12 +18,13 @@ from typing import Any, Callable, Dict, Iterator, List, Sequence, Tuple
 
 import pytest
 
-from harness import (BUILDS, FLAGS, MODEL, PROGRAM, ROOT, Row, alone, compiled, is_newer,
-                     parametrized, run, want, written)
+from harness import (BUILDS, FLAGS, MODEL, PROGRAM, ROOT, alone, compiled, is_newer, named, run,
+                     written)
 from hostile import SATISFIABLE, is_model, program
 from hostile_programs import COMMON
 from solving import FRONTS_FLAGS, LRUP_SOLVE, Answer, in_place_of_lrupd, with_model
 
+pytestmark = LRUP_SOLVE
 FOLDER = ROOT / "tools" / "lrup-solve"
 MARK = re.compile(r"// trusted \(([^)]*)\)")
 LINES = (FOLDER / "front.c").read_text().splitlines(keepends=True)
@@ -262,27 +263,29 @@ def front_of(source: str, work: Path) -> Path:
     return compiled(folder / "bin" / "lrup-solve", [folder / "front.c", unchanged()[1]], *COMPILES)
 
 
-def left_out(number: int, name: str, work: Path) -> None:
-    for whole in (False, True):
-        here = work / ("whole" if whole else "without")
-        here.mkdir()
-        found = ATTACKS[name](whole_front(here) if whole else front_without(number, here), here)
-        want(found, not whole, "a wrong answer of the whole front" if whole
-                               else f"a wrong answer without\n{LINES[number]}")
+def test_each_mark_has_an_attack_and_each_attack_a_mark() -> None:
+    assert sorted(MARKS.values()) == sorted(ATTACKS)
 
 
-def other(name: str, work: Path) -> None:
-    want(OTHER_ATTACKS[name](whole_front(work), work), False, "a wrong answer")
+@pytest.mark.parametrize("number, name", named(
+    (name, number, name) for number, name in MARKS.items() if name in ATTACKS))
+def test_a_wrong_answer_without_a_trusted_line(number: int, name: str, tmp_path: Path) -> None:
+    """The same attack gets none from the whole front."""
+    without, whole = tmp_path / "without", tmp_path / "whole"
+    without.mkdir()
+    whole.mkdir()
+    assert ATTACKS[name](front_without(number, without), without), LINES[number]
+    assert not ATTACKS[name](whole_front(whole), whole)
 
 
-def named(work: Path) -> None:
-    """Each mark has an attack, and each attack has a marked line."""
-    want(sorted(MARKS.values()), sorted(ATTACKS), "the words of the marks")
+@pytest.mark.parametrize("name", OTHER_ATTACKS)
+def test_no_wrong_answer_of_the_whole_front(name: str, tmp_path: Path) -> None:
+    assert not OTHER_ATTACKS[name](whole_front(tmp_path), tmp_path)
 
 
 # Statements without a mark.
 
-PROCESSES, MEMORY = 300, 8 << 30      # limits of a row; without some line a front may fork forever
+PROCESSES, MEMORY = 300, 8 << 30    # limits of a test; without some line a front may fork forever
 GROUPS = [Path("/sys/fs/cgroup"), Path("/sys/fs/cgroup/pids")]      # of version 2, and 1
 
 
@@ -399,40 +402,26 @@ def attacked(front: Path, work: Path) -> None:
         os.wait()
 
 
-def unmarked(lines: Sequence[int], work: Path) -> None:
+@pytest.mark.nightly
+@pytest.mark.parametrize("lines", named(
+    (f"line {lines[0] + 1}: {LINES[lines[0]].strip()[:50]}", lines) for lines in statements()))
+def test_no_wrong_answer_without_an_unmarked_statement(lines: range, tmp_path: Path) -> None:
     """Without these lines the front isn't compiled, or gives no wrong answer."""
     text = "".join(LINES[:lines[0]] + [";\n"] + LINES[lines[-1] + 1:])
     try:
-        front = front_of(text, work)
+        front = front_of(text, tmp_path)
     except subprocess.CalledProcessError:
         return
-    with few_processes(work) as limit:
+    with few_processes(tmp_path) as limit:
         child = os.fork()
         if child == 0:
             try:
                 limit()
-                (work / "names").touch()
+                (tmp_path / "names").touch()
                 resource.setrlimit(resource.RLIMIT_AS, (MEMORY, MEMORY))
-                attacked(front, work)
+                attacked(front, tmp_path)
             finally:
                 os._exit(0)
         os.waitpid(child, 0)
-    left_out_lines = "".join(LINES[k] for k in lines)
-    want((work / "names").read_text(), "", f"attacks with a wrong answer without\n{left_out_lines}")
-
-
-def rows() -> List[Row]:
-    return [("marks", named),
-            *((f"without: {name}", left_out, number, name)
-              for number, name in MARKS.items() if name in ATTACKS),
-            *((f"whole: {name}", other, name) for name in OTHER_ATTACKS)]
-
-
-def nightly_rows() -> List[Row]:
-    return [(f"unmarked, line {lines[0] + 1}: {LINES[lines[0]].strip()[:50]}", unmarked, lines)
-            for lines in statements()]
-
-
-pytestmark = LRUP_SOLVE
-test_row = parametrized(rows())
-test_unmarked = pytest.mark.nightly(parametrized(nightly_rows()))
+    attacks = (tmp_path / "names").read_text().splitlines()
+    assert attacks == [], "".join(LINES[k] for k in lines)
