@@ -4,7 +4,9 @@ A hostile program gets a wrong answer from each front that lacks such a line, bu
 whole front. Nightly tests leave out each statement without a marked line, and try all those
 programs: there is no wrong answer."""
 import contextlib
+import errno
 import functools
+import multiprocessing
 import os
 import re
 import resource
@@ -12,19 +14,23 @@ import shlex
 import shutil
 import signal
 import subprocess
+import tempfile
 import time
+from concurrent.futures import Future, ProcessPoolExecutor
 from pathlib import Path
-from typing import Any, Callable, Dict, Iterator, List, Sequence, Tuple
+from typing import IO, Any, Callable, Dict, Iterator, List, Optional, Sequence, Tuple
 
 import pytest
 
-from harness import (BUILDS, FLAGS, MODEL, PROGRAM, ROOT, alone, compiled, is_newer, named, run,
-                     written)
+from harness import (BUILDS, FLAGS, MODEL, PROGRAM, ROOT, Ran, alone, compiled, is_newer, named,
+                     started, text_of, written)
 from hostile import SATISFIABLE, is_model, program
 from hostile_programs import COMMON
-from solving import FRONTS_FLAGS, LRUP_SOLVE, Answer, in_place_of_lrupd, with_model
+from solving import FRONTS_FLAGS, Answer, in_place_of_lrupd, with_model
 
-pytestmark = LRUP_SOLVE
+pytestmark = pytest.mark.usefixtures("lrup_solve")
+# On a busy machine an attack may come too late.
+MAY_BE_LATE = pytest.mark.flaky(reruns=2)
 FOLDER = ROOT / "tools" / "lrup-solve"
 MARK = re.compile(r"// trusted \(([^)]*)\)")
 LINES = (FOLDER / "front.c").read_text().splitlines(keepends=True)
@@ -40,15 +46,35 @@ time.sleep(0.3)
 forge({line!r})
 os.kill(int(front), signal.SIGCONT)
 hears('lrupd')"""
+TIME, LIMIT = 10, 60    # seconds: --time, and when a front is ended
 Attack = Callable[[Path, Path], bool]
+
+
+def printed(pipe: Optional[IO[bytes]]) -> str:
+    """What has been written into the pipe, which other processes may have open."""
+    if pipe is None:
+        return ""
+    os.set_blocking(pipe.fileno(), False)
+    return text_of(pipe.read())
+
+
+def ran(words: Sequence[object], given: str = "", **how: Any) -> Ran:
+    """Runs a front to its end, in a session of its own, since without some line it signals its
+    process group. Processes that it leaves aren't awaited, even if they keep its outputs open."""
+    how = {"stdin": subprocess.PIPE, "stdout": subprocess.PIPE, "stderr": subprocess.PIPE, **how}
+    with started(words, start_new_session=True, **how) as process:
+        assert process.stdin
+        with contextlib.suppress(BrokenPipeError), process.stdin as pipe:
+            pipe.write(given.encode())
+        status = process.wait(LIMIT)
+        return Ran(printed(process.stdout), printed(process.stderr), status)
 
 
 def answer_of(front: Path, work: Path, body: str, words: Sequence[object] = (),
               text: str = SATISFIABLE, lrupd: object = PROGRAM, **how: Any) -> Answer:
     word = "-" if "given" in how else written(text, work)
-    return Answer(run([front, "--lrupd", lrupd, "--engines", program(body, work), "--time", "10",
-                       *words, word],
-                      limit=60, **how))
+    return Answer(ran([front, "--lrupd", lrupd, "--engines", program(body, work), "--time", TIME,
+                       *words, word], **how))
 
 
 def says(line: str, *how: Any, **more: Any) -> Attack:
@@ -113,7 +139,7 @@ def in_the_current_folder(front: Path, work: Path) -> bool:
                              Path(shutil.copy(front, work / "removed")))
     with open(copy) as file:
         copy.unlink()
-        done = run([f"/proc/self/fd/{file.fileno()}", formula], cwd=folder,
+        done = ran([f"/proc/self/fd/{file.fileno()}", formula], cwd=folder,
                    pass_fds=[file.fileno()])
     return UNSATISFIABLE in done.out.splitlines()
 
@@ -122,7 +148,7 @@ def looked_up(words: Sequence[str], path: str) -> Attack:
     def attack(front: Path, work: Path) -> bool:
         folder, formula = planted(work, "engines"), written(SATISFIABLE, work)
         shutil.copy(MODEL, front.parent)
-        done = run([front, "--engines", folder / "engines", *words, formula], cwd=folder,
+        done = ran([front, "--engines", folder / "engines", *words, formula], cwd=folder,
                    env={**os.environ, "PATH": path})
         return UNSATISFIABLE in done.out.splitlines()
     return attack
@@ -130,7 +156,7 @@ def looked_up(words: Sequence[str], path: str) -> Attack:
 
 def prints(front: Path, work: Path) -> bool:
     engines = in_place_of_lrupd("echo s UNSATISFIABLE", work)
-    return UNSATISFIABLE in run([front, "--lrupd", PROGRAM, "--engines", engines,
+    return UNSATISFIABLE in ran([front, "--lrupd", PROGRAM, "--engines", engines,
                                  written(SATISFIABLE, work)]).out.splitlines()
 
 
@@ -141,8 +167,8 @@ def as_expected(front: Path, work: Path) -> bool:
 
 def unproved(front: Path, work: Path) -> bool:
     """As lrup-check: nothing is proved, but the status says so."""
-    return run([front, "--check", "--lrupd", PROGRAM, "--engines", program("", work),
-                written(SATISFIABLE, work), os.devnull], limit=60).status == 0
+    return ran([front, "--check", "--lrupd", PROGRAM, "--engines", program("", work),
+                written(SATISFIABLE, work), os.devnull]).status == 0
 
 
 def unread(front: Path, work: Path) -> bool:
@@ -150,11 +176,11 @@ def unread(front: Path, work: Path) -> bool:
     own folder, and the formula on standard input."""
     program("", front.parent).rename(front.with_name("lrup-engines"))
     front.with_name("lrupd").symlink_to(PROGRAM)
-    return run([front, "--expect", "unsat"], SATISFIABLE, limit=60).status == 0
+    return ran([front, "--expect", "unsat"], SATISFIABLE).status == 0
 
 
 def helped(front: Path, work: Path) -> bool:
-    return run([front, "--expect", "unsat", "--help"]).status == 0
+    return ran([front, "--expect", "unsat", "--help"]).status == 0
 
 
 def half_unpacked(front: Path, work: Path) -> bool:
@@ -162,8 +188,8 @@ def half_unpacked(front: Path, work: Path) -> bool:
     gzip = program("", work).rename(written("", work / "unpacks", "gzip"))
     gzip.write_text("#!/bin/sh\nprintf 'p cnf 1 2\\n1 0\\n-1 0\\n'\nexit 1\n")
     body = "stream(1, '3 0 1 2 0\\n')\ncheck()\nhears('lrupd')"
-    done = run([front, "--lrupd", PROGRAM, "--engines", program(body, work), "--time", "10",
-                written(SATISFIABLE, work, "formula.cnf.gz")], limit=60,
+    done = ran([front, "--lrupd", PROGRAM, "--engines", program(body, work), "--time", TIME,
+                written(SATISFIABLE, work, "formula.cnf.gz")],
                env={**os.environ, "PATH": f"{gzip.parent}:{os.environ['PATH']}"})
     return UNSATISFIABLE in done.out.splitlines()
 
@@ -250,23 +276,23 @@ def whole_front(work: Path) -> Path:
     return Path(shutil.copy(unchanged()[0], work / "bin"))
 
 
-def front_without(number: int, work: Path) -> Path:
-    """The front without this line, alone in its folder."""
-    return front_of("".join(line for at, line in enumerate(LINES) if at != number), work)
+def source_without(lines: range) -> str:
+    """The front's text with an empty statement in place of these lines."""
+    return "".join([*LINES[:lines.start], ";\n", *LINES[lines.stop:]])
 
 
-def front_of(source: str, work: Path) -> Path:
-    folder = work / "front"
-    folder.mkdir()
-    (folder / "front.c").write_text(source)
-    (folder / "bin").mkdir()
-    return compiled(folder / "bin" / "lrup-solve", [folder / "front.c", unchanged()[1]], *COMPILES)
+def compiled_front(source: str, work: Path) -> Path:
+    """A front with this text, alone in its folder."""
+    (work / "bin").mkdir()
+    text = written(source, work, "front.c")
+    return compiled(work / "bin" / "lrup-solve", [text, unchanged()[1]], *COMPILES)
 
 
 def test_each_mark_has_an_attack_and_each_attack_a_mark() -> None:
     assert sorted(MARKS.values()) == sorted(ATTACKS)
 
 
+@MAY_BE_LATE
 @pytest.mark.parametrize("number, name", named(
     (name, number, name) for number, name in MARKS.items() if name in ATTACKS))
 def test_a_wrong_answer_without_a_trusted_line(number: int, name: str, tmp_path: Path) -> None:
@@ -274,10 +300,12 @@ def test_a_wrong_answer_without_a_trusted_line(number: int, name: str, tmp_path:
     without, whole = tmp_path / "without", tmp_path / "whole"
     without.mkdir()
     whole.mkdir()
-    assert ATTACKS[name](front_without(number, without), without), LINES[number]
+    front = compiled_front(source_without(range(number, number + 1)), without)
+    assert ATTACKS[name](front, without), LINES[number]
     assert not ATTACKS[name](whole_front(whole), whole)
 
 
+@MAY_BE_LATE
 @pytest.mark.parametrize("name", OTHER_ATTACKS)
 def test_no_wrong_answer_of_the_whole_front(name: str, tmp_path: Path) -> None:
     assert not OTHER_ATTACKS[name](whole_front(tmp_path), tmp_path)
@@ -285,8 +313,11 @@ def test_no_wrong_answer_of_the_whole_front(name: str, tmp_path: Path) -> None:
 
 # Statements without a mark.
 
-PROCESSES, MEMORY = 300, 8 << 30    # limits of a test; without some line a front may fork forever
+AT_ONCE = 12 * (os.cpu_count() or 1)    # attacks, which mostly wait
+PROCESSES, MEMORY = 100, 2 << 30        # of an attack: without some line a front may fork forever
 GROUPS = [Path("/sys/fs/cgroup"), Path("/sys/fs/cgroup/pids")]      # of version 2, and 1
+EVERY_ATTACK = {**ATTACKS, **OTHER_ATTACKS}
+WRONG = "a wrong answer"
 
 
 def code_of(line: str) -> str:
@@ -295,15 +326,17 @@ def code_of(line: str) -> str:
 
 
 def end_of(first: int) -> int:
-    """The last line of the statement that begins in this line; an `else` belongs to its `if`."""
-    number, depth = first, 0
-    while True:
+    """The last line of the statement that begins in this line; an `else` belongs to an `if` of the
+    statement, if there is one."""
+    depth, has_if = 0, False
+    for number in range(first, len(LINES)):
         code = code_of(LINES[number])
         depth += code.count("{") + code.count("(") - code.count("}") - code.count(")")
-        is_end = depth == 0 and code.endswith((";", "}"))
-        if is_end and not code_of(LINES[number + 1]).startswith("else"):
+        has_if = has_if or code.startswith(("if", "else if"))
+        goes_on = has_if and code_of(LINES[number + 1]).startswith("else")
+        if depth == 0 and code.endswith((";", "}")) and not goes_on:
             return number
-        number += 1
+    raise AssertionError(f"line {first + 1} begins no statement")
 
 
 def statements() -> List[range]:
@@ -369,6 +402,7 @@ def few_processes(work: Path) -> Iterator[Callable[[], None]]:
 
 
 def end_group(group: Path) -> None:
+    (group / "pids.max").write_text("0")
     end = time.monotonic() + 20
     while True:
         left = (group / "cgroup.procs").read_text().split()
@@ -381,47 +415,104 @@ def end_group(group: Path) -> None:
         time.sleep(0.05)
 
 
-def attacked(front: Path, work: Path) -> None:
-    """Writes the names of the attacks that get a wrong answer. If the front can't run, or doesn't
-    end, an attack has none. Each attack has a folder and a session of its own, since a front may
-    kill its whole process group."""
-    for name, attack in {**ATTACKS, **OTHER_ATTACKS}.items():
-        here, said = work / re.sub(r"\W", "-", name), ""
-        (here / "bin").mkdir(parents=True)
-        if os.fork() == 0:
-            os.setsid()
-            try:
-                said = name * attack(Path(shutil.copy(front, here / "bin")), here)
-            except (subprocess.TimeoutExpired, OSError):
-                pass
-            except Exception as found:
-                said = f"{name}: {found!r}"
-            with open(work / "names", "a") as names:
-                names.write(f"{said}\n" * bool(said))
-            os._exit(0)
-        os.wait()
+def tried(attack: Attack, front: Path, work: Path) -> str:
+    """If the front can't run, or doesn't end, there is no wrong answer."""
+    (work / "bin").mkdir()
+    try:
+        return WRONG if attack(Path(shutil.copy(front, work / "bin")), work) else ""
+    except (subprocess.TimeoutExpired, OSError):
+        return ""
+    except Exception as found:
+        return repr(found)
+
+
+def attacked(attack: Attack, front: Path) -> str:
+    """WRONG, or what has happened to the attack itself, or nothing. The attack has a folder and a
+    control group of its own, of which nothing is left."""
+    with tempfile.TemporaryDirectory() as folder:
+        work = Path(folder)
+        found = written("it hasn't ended", work, "found")
+        with few_processes(work) as limit:
+            found.chmod(0o666)      # the attack may be another user's
+            child = os.fork()
+            if child == 0:
+                try:
+                    limit()
+                    resource.setrlimit(resource.RLIMIT_AS, (MEMORY, MEMORY))
+                    found.write_text(tried(attack, front, work))
+                finally:
+                    os._exit(0)
+            os.waitpid(child, 0)
+        return found.read_text()
+
+
+def starts_itself(front: Path, work: Path) -> bool:
+    """The front, named as lrup-engines, starts itself until there can't be more processes."""
+    done = ran([front, "--lrupd", PROGRAM, "--engines", front, written(SATISFIABLE, work)])
+    return os.strerror(errno.EAGAIN) in done.err
+
+
+@pytest.mark.nightly
+def test_a_front_that_starts_itself_ends(tmp_path: Path) -> None:
+    """It does without the statement by which a front refuses to be started by another one."""
+    refusal, = [number for number, line in enumerate(LINES) if 'getenv("LRUP_FRONT")' in line]
+    front = compiled_front(source_without(range(refusal, refusal + 1)), tmp_path)
+    assert attacked(starts_itself, front) == WRONG
+    assert attacked(starts_itself, unchanged()[0]) == ""
+
+
+# What each attack finds, once it has ended.
+Findings = Dict[str, "Future[str]"]
+
+
+def attacked_by(name: str, front: Path) -> str:
+    return attacked(EVERY_ATTACK[name], front)
+
+
+def front_without(lines: range, work: Path) -> Optional[Path]:
+    """None if the front can't be compiled without these lines."""
+    work.mkdir()
+    try:
+        return compiled_front(source_without(lines), work)
+    except subprocess.CalledProcessError:
+        return None
+
+
+@pytest.fixture(scope="session")
+def findings(request: pytest.FixtureRequest) -> Iterator[Dict[range, Findings]]:
+    """Attacks the front without the `lines` of each test that uses this. The attacks of all tests
+    are done side by side, by one pool of processes."""
+    chosen: List[Any] = [item.callspec.params["lines"] for item in request.session.items
+                         if isinstance(item, pytest.Function) and "findings" in item.fixturenames]
+    unchanged()
+    with tempfile.TemporaryDirectory() as folder, \
+            ProcessPoolExecutor(AT_ONCE, multiprocessing.get_context("fork")) as pool:
+        os.chmod(folder, 0o755)     # an attack may be another user's
+        places = [Path(folder) / str(lines.start) for lines in chosen]
+        fronts = zip(chosen, pool.map(front_without, chosen, places))
+        yield {lines: {name: pool.submit(attacked_by, name, front) for name in EVERY_ATTACK
+                       if front is not None} for lines, front in fronts}
+        pool.shutdown(cancel_futures=True)
+
+
+def found(findings: Findings) -> Dict[str, str]:
+    """What there is, by the attacks' names."""
+    results = {name: finding.result() for name, finding in findings.items()}
+    return {name: result for name, result in results.items() if result}
+
+
+@pytest.mark.nightly
+@pytest.mark.parametrize("lines, name", named(
+    (name, range(number, number + 1), name) for number, name in MARKS.items()))
+def test_attacks_side_by_side(lines: range, name: str, findings: Dict[range, Findings]) -> None:
+    """Without a marked line, its attack gets a wrong answer here, too."""
+    assert found(findings[lines]).get(name) == WRONG
 
 
 @pytest.mark.nightly
 @pytest.mark.parametrize("lines", named(
-    (f"line {lines[0] + 1}: {LINES[lines[0]].strip()[:50]}", lines) for lines in statements()))
-def test_no_wrong_answer_without_an_unmarked_statement(lines: range, tmp_path: Path) -> None:
-    """Without these lines the front isn't compiled, or gives no wrong answer."""
-    text = "".join(LINES[:lines[0]] + [";\n"] + LINES[lines[-1] + 1:])
-    try:
-        front = front_of(text, tmp_path)
-    except subprocess.CalledProcessError:
-        return
-    with few_processes(tmp_path) as limit:
-        child = os.fork()
-        if child == 0:
-            try:
-                limit()
-                (tmp_path / "names").touch()
-                resource.setrlimit(resource.RLIMIT_AS, (MEMORY, MEMORY))
-                attacked(front, tmp_path)
-            finally:
-                os._exit(0)
-        os.waitpid(child, 0)
-    attacks = (tmp_path / "names").read_text().splitlines()
-    assert attacks == [], "".join(LINES[k] for k in lines)
+    (f"line {lines.start + 1}: {LINES[lines.start].strip()[:50]}", lines)
+    for lines in statements()))
+def test_no_wrong_answer_without_an_unmarked_statement(
+        lines: range, findings: Dict[range, Findings]) -> None:
+    assert found(findings[lines]) == {}, "".join(LINES[lines.start:lines.stop])
