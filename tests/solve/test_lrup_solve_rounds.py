@@ -508,8 +508,8 @@ def test_another_lrupd(body: str, status: int, cause: str, tmp_path: Path) -> No
     """In place of lrupd there is a program that reads the streams of round 1. It may save `$saved`,
     and wait for the next round."""
     path = in_place_of_lrupd("""case "$*" in *' /dev/null') exit 3;; esac
-while [ "$1" != --rounds ]; do shift; done
-next=$2/round-2 formula=$3; shift 3
+while case "$1" in --rounds=*) false;; esac; do shift; done
+next=${1#--rounds=}/round-2 formula=$2; shift 2
 cat "$@" > /dev/null
 saved=$next.cnf
 """ + body, tmp_path)

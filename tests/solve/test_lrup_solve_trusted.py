@@ -39,6 +39,8 @@ MARKS = {number: found[1] for number, line in enumerate(LINES) for found in MARK
 COMPILES = [*FRONTS_FLAGS, "-w", f"-I{FOLDER}", *shlex.split(FLAGS)]
 UNSATISFIABLE, UNDER = "s UNSATISFIABLE", "s UNSATISFIABLE UNDER ASSUMPTIONS"
 FOUND = "s SATISFIABLE"
+# Another formula, and its proof as the only stream, or as the second one.
+OTHER, PROVES, PROVES_SECOND = "p cnf 1 2\n1 0\n-1 0\n", "3 0 1 2 0\n", "4 0 1 2 0\n"
 # While the front is stopped, lrupd ends, and a line is added after lrupd's last one.
 FORGES = """os.kill(int(front), signal.SIGSTOP)
 {end}
@@ -160,9 +162,32 @@ def prints(front: Path, work: Path) -> bool:
                                  written(SATISFIABLE, work)]).out.splitlines()
 
 
-def as_expected(front: Path, work: Path) -> bool:
+def as_expected(*words: str) -> Attack:
     """No answer is printed, but the status says that the expected one was."""
-    return answer_of(front, work, "", ["--expect", "unsat"]).status == 0
+    return lambda front, work: answer_of(front, work, "", words).status == 0
+
+
+def without_value(front: Path, work: Path) -> bool:
+    """The same, where the option is the last word."""
+    return ran([front, "--lrupd", PROGRAM, "--engines", program("", work),
+                written(SATISFIABLE, work), "--expect"]).status == 0
+
+
+def on_standard_input(*words: str) -> Attack:
+    """Another formula is checked than the one whose name follows these words."""
+    def attack(front: Path, work: Path) -> bool:
+        body = f"stream(1, {PROVES!r})\ncheck()\nhears('lrupd')"
+        done = ran([front, "--lrupd", PROGRAM, "--engines", program(body, work), "--time", TIME,
+                    *words, written(SATISFIABLE, work)], OTHER)
+        return UNSATISFIABLE in done.out.splitlines()
+    return attack
+
+
+def in_place_of_a_number(front: Path, work: Path) -> bool:
+    """A file in the current folder has the name of a number that lrupd gets."""
+    body = (f"open('10', 'w').write({OTHER!r})\nstream(1, {PROVES_SECOND!r})\n"
+            "check('1 10 10 10')\nhears('lrupd')")
+    return UNSATISFIABLE in answer_of(front, work, body, cwd=work).answers
 
 
 def unproved(front: Path, work: Path) -> bool:
@@ -186,8 +211,8 @@ def helped(front: Path, work: Path) -> bool:
 def half_unpacked(front: Path, work: Path) -> bool:
     """The program that unpacks the formula fails after it has written another one."""
     gzip = program("", work).rename(written("", work / "unpacks", "gzip"))
-    gzip.write_text("#!/bin/sh\nprintf 'p cnf 1 2\\n1 0\\n-1 0\\n'\nexit 1\n")
-    body = "stream(1, '3 0 1 2 0\\n')\ncheck()\nhears('lrupd')"
+    gzip.write_text(f"#!/bin/sh\necho '{OTHER}'\nexit 1\n")
+    body = f"stream(1, {PROVES!r})\ncheck()\nhears('lrupd')"
     done = ran([front, "--lrupd", PROGRAM, "--engines", program(body, work), "--time", TIME,
                 written(SATISFIABLE, work, "formula.cnf.gz")],
                env={**os.environ, "PATH": f"{gzip.parent}:{os.environ['PATH']}"})
@@ -205,10 +230,21 @@ def cut(front: Path, work: Path) -> bool:
 
 ENDS = ("os.mkfifo(folder + '/round-1.stream-1')\ncheck()\n"
         "feeding = open(folder + '/round-1.stream-1', 'w')\n")
-CHANGES = """os.pwrite(os.open(formula, os.O_RDWR), b"p cnf 1 2\\n1 0\\n-1 0\\n", 0)
-os.truncate(formula, 19)
-stream(1, "3 0 1 2 0\\n")
+CHANGES = f"""os.truncate(formula, 0)
+open(formula, "w").write({OTHER!r})
+stream(1, {PROVES!r})
 check()
+hears("lrupd")"""
+# The pipe has the formula while lrupd reads it, and a folder's number once lrupd opens streams.
+PIPES = f"""signal.alarm(4)
+stream(1, {PROVES_SECOND!r})
+os.mkfifo(here + "/pipe")
+number = os.open(here + "/pipe", os.O_PATH)
+say(f"check 1 10 10 10 {{os.getpid()}} {{number}}")
+with open(here + "/pipe", "w") as pipe:
+    pipe.write({OTHER!r})
+    pipe.flush()
+    os.dup2(FOLDER, number)
 hears("lrupd")"""
 CUTS = f"""stream(1, '5 2 0 1 2 0\\n')
 check()
@@ -235,10 +271,14 @@ ATTACKS: Dict[str, Attack] = {
         "++-", "tries(overwrites, in_memory('model')[0], b'v -1 -2 -3 0\\n')"),
     "lines": says(UNSATISFIABLE, COMMON + ADDS),
     "values": gives("++-"),
-    "formula": says(UNSATISFIABLE, "stream(1, 'p cnf 1 2\\n1 0\\n-1 0\\n')\n"
-                                   "stream(2, '3 0 1 2 0\\n')\ncheck('2 10 10 0')\nhears('lrupd')"),
-    "one line": says(UNSATISFIABLE, "say('c x\\ns UNSATISFIABLE')"), "expected": as_expected,
-    "unproved": unproved, "answer": as_expected, "options": unread, "words": unread, "help": helped,
+    "formula": says(UNSATISFIABLE, f"stream(1, {OTHER!r})\nstream(2, {PROVES!r})\n"
+                                   "check('2 10 10 0')\nhears('lrupd')"),
+    "file": on_standard_input(), "word": on_standard_input(), "after --": on_standard_input("--"),
+    "one line": says(UNSATISFIABLE, "say('c x\\ns UNSATISFIABLE')"),
+    "expected": as_expected("--expect", "unsat"), "answer": as_expected("--expect", "unsat"),
+    "name": as_expected("--expct=unsat"), "empty": as_expected("--expect="),
+    "no value": without_value, "unproved": unproved, "options": unread, "words": unread,
+    "help": helped,
     "end": cut, "signal": killed_by_its_status, "status": says(UNSATISFIABLE, FORGED),
     "exit": says(UNSATISFIABLE, FORGED),
     "last line": lambda front, work: UNSATISFIABLE in answer_of(
@@ -248,6 +288,8 @@ ATTACKS: Dict[str, Attack] = {
 # Attacks that no single line keeps off.
 OTHER_ATTACKS: Dict[str, Attack] = {
     "a name": looked_up(["--lrupd", "lrupd"], "/usr/bin"),
+    "a formula in place of a number": in_place_of_a_number,
+    "a formula in place of the folder": says(UNSATISFIABLE, PIPES),
     "a verdict in place of a comment": says(UNSATISFIABLE, "say('s UNSATISFIABLE')"),
     "no model": gives(""), "no variable is true": gives("---"), "one clause isn't": gives("+--"),
     "too many variables": gives("++-+"),

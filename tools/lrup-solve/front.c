@@ -147,7 +147,7 @@ static const char *shown(const char *word) {
 
 static void take_file(const char *word) {
     if (given[FORMULA] != NULL && !is_check) errx(1, "unexpected argument: %s", shown(word));
-    if (given[FORMULA] == NULL) given[FORMULA] = word;
+    if (given[FORMULA] == NULL) given[FORMULA] = word;  // trusted (file)
     files_given++;
 }
 
@@ -172,19 +172,19 @@ static void read_words(int count, char **words) {
     while ((code = getopt_long(count, words, "-:j:qvh", list, &index)) != -1) {
         const char *name = index < 0 ? text("-%c", code) : text("--%s", list[index].name);
         bool is_abbreviated = index >= 0 && strcspn(words[at], "=") < strlen(name);
-        if (code == ':') errx(1, "no value after %s", shown(words[at]));
+        if (code == ':') errx(1, "no value after %s", shown(words[at]));  // trusted (no value)
         if (code == '?' || is_abbreviated)
-            errx(1, "no such option: %s (--help lists them)", shown(words[at]));
+            errx(1, "no such option: %s (--help lists them)", shown(words[at]));  // trusted (name)
         if (code == FORMULA)
-            take_file(optarg);
+            take_file(optarg);  // trusted (word)
         else if (optarg != NULL && *optarg == 0)
-            errx(1, "%s takes a value, not ''", name);
+            errx(1, "%s takes a value, not ''", name);  // trusted (empty)
         else
             given[code] = optarg ? optarg : "";  // trusted (options)
         at = optind;
         index = -1;
     }
-    while (optind < count) take_file(words[optind++]);  // after --
+    while (optind < count) take_file(words[optind++]);  // trusted (after --)
 }
 
 // Prints the help, or the version, in place of an answer.
@@ -369,17 +369,16 @@ struct request {
     unsigned long streams, lines, room, tries, pid, file;
 };
 
+// An option and its value are one word, so that no value can be taken for the formula.
 static void start_lrupd(const struct request *request) {
     const char *folder = text("/proc/%lu/fd/%lu", request->pid, request->file);
-    const char *words[MOST_STREAMS + 16] = { lrupd, "--tries", text("%lu", request->tries) };
-    size_t count = 3;
-    words[count++] = "--lines";
-    words[count++] = text("%lu", request->lines);
-    words[count++] = "--room";
-    words[count++] = text("%lu", request->room);
+    const char *words[MOST_STREAMS + 16] = { lrupd };
+    size_t count = 1;
+    words[count++] = text("--tries=%lu", request->tries);
+    words[count++] = text("--lines=%lu", request->lines);
+    words[count++] = text("--room=%lu", request->room);
     if (assume) words[count++] = text("--assume=%s", assume);
-    words[count++] = "--rounds";
-    words[count++] = folder;
+    words[count++] = text("--rounds=%s", folder);
     if (given[VERBOSE]) words[count++] = "--watch";
     words[count++] = formula;  // trusted (formula): before the streams
     for (unsigned long k = 1; k <= request->streams; k++)
