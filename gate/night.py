@@ -108,7 +108,7 @@ STEPS = (
     Step("thread", 90, [], sanitized("thread")),
     Step("edits", 120, [], "make edits"),
     Step("days", 90, [], "make days"),
-    Step("unmarked", 480, [], "make unmarked"),
+    Step("unmarked", 60, [], "make unmarked"),
 )
 
 
