@@ -279,7 +279,7 @@ examples live checkpoints rounds neighbours sweep leaks instructions solver-test
 trim-test explain-test solve-test shown quotes-test builds rows: $(BUILT) tools pytest
 	@python3 gate/tests.py --program $(PROGRAM) --pytest '$(PYTEST)' --rt '$(RT)' $(TESTS) -- $(MORE)
 
-unmarked: $(BUILT) pytest ## check: lrup-solve's front without each statement that isn't marked as trusted, in some hours
+unmarked: $(BUILT) pytest ## check: lrup-solve's front without each statement that isn't marked as trusted, in some minutes
 	@python3 gate/tests.py --program $(PROGRAM) --pytest '$(PYTEST)' lrup_solve_trusted -- -m nightly
 
 # `days` uses larger formulas than the gate does. SEED, which is printed, determines what is tried.

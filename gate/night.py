@@ -109,7 +109,7 @@ STEPS = (
     Step("edits", 120, [], "make edits"),
     Step("days", 90, [], "make days"),
     Step("attack", 90, ["strace"], "make attack"),
-    Step("unmarked", 480, [], "make unmarked"),
+    Step("unmarked", 60, [], "make unmarked"),
 )
 
 

@@ -118,6 +118,7 @@ static bool is_solving = true;
 static long deadline, run_ends;  // by now(); of what is being done, and of --time
 static const char *proc_self, *lrupd, *lrup_model, *formula, *assume;  // paths
 static FILE *model;                 // in memory: lines with a literal for each of the variables
+static const char *checked_lines;   // of the model, once lrup-model has accepted them; NULL before
 static long values;                 // how many these are
 static bool is_whole, has_refused;  // the model; lrup-engines
 static int ended_by;                // a signal; 0: none
@@ -572,27 +573,28 @@ static void check_model(void) {
     signal_group(LRUP_MODEL, SIGKILL);
 }
 
-// The lines that lrup-model has checked. Before they were sealed, another process may have written
-// others, which lrup-model would accept if they begin with c or s.
-static const char *checked_lines(void) {
+// Reads the lines that lrup-model has checked. Before they were sealed, another process may have
+// written others, which lrup-model would accept if they begin with c or s.
+static void read_checked_lines(void) {
     ssize_t size = lseek(fileno(model), 0, SEEK_END);
     char *lines = size < 0 ? NULL : calloc((size_t)size + 1, 1);
     bool is_read = lines != NULL && pread(fileno(model), lines, (size_t)size, 0) == size;
     if (!is_read) err(1, "cannot read the model");
     bool is_model = strspn(lines, "v -0123456789\n") == (size_t)size;
     if (!is_model) errx(1, "another process has changed the model");  // trusted (lines)
-    return lines;
+    checked_lines = lines;
 }
 
 // Prints the answer, and returns the status. If there is an answer, the status is the answer's,
 // whatever else lrup-engines couldn't do.
 static int answer(void) {
     const char *line = verdict ? verdict->line : "s UNKNOWN";
-    const char *lines = verdict && verdict->checker == LRUP_MODEL ? checked_lines() : "";
+    bool has_model = verdict != NULL && verdict->checker == LRUP_MODEL;
     bool is_expected = verdict != NULL && verdict == expected;
+    if (has_model) read_checked_lines();
     sigprocmask(SIG_SETMASK, &mask_before, NULL);  // signals may end a long write
     if (verdict || !has_refused) puts(line);
-    fputs(lines, stdout);  // trusted (values)
+    if (has_model) fputs(checked_lines, stdout);  // trusted (values)
     bool is_printed = fflush(stdout) == 0 && !ferror(stdout);
     if (!is_printed && errno == EPIPE) {  // nobody reads: ends as other programs do
         signal(SIGPIPE, SIG_DFL);
