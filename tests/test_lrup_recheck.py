@@ -21,7 +21,7 @@ from typing import (Any, Callable, Dict, Iterator, List, Mapping, NamedTuple, Op
 import pytest
 
 from harness import (FOUR, LIMIT, LRUP_RECHECK, ROOT, SMALL_ROW, Ran, Wanted, answers, each_of,
-                     held, named, needs, piped, report, run, small, started, until, within, written)
+                     held, named, pack, piped, report, run, small, started, until, within, written)
 from rounds import ONE, fault, last, round_files, saved_name
 
 SHELLS = {"dash": ["dash"], "bash": ["bash"], "busybox": ["busybox", "sh"]}
@@ -215,14 +215,6 @@ def test_a_full_disk_in_round_2(recheck: Recheck, tmp_path: Path) -> None:
 
 
 # Compressed streams.
-
-PACKERS = {"xz": "xz", "gz": "gzip", "bz2": "bzip2", "zst": "zstd"}
-
-
-def pack(path: Path, form: str) -> None:
-    needs(PACKERS[form])
-    done = run([PACKERS[form], "-q", *["--rm"] * (form == "zst"), path])
-    assert done.status == 0, done.err
 
 
 def lay_packed(forms: Sequence[str], folder: Path) -> List[str]:

@@ -9,11 +9,10 @@ from typing import Callable, Dict, List
 
 import pytest
 
-from harness import EXPLAIN, FILTER, TRIM, Ran, example, needs, run, written
+from harness import EXPLAIN, FILTER, PACKERS, TRIM, Ran, example, pack, run, written
 from solving import SOLVE, check_again
 
 pytestmark = pytest.mark.usefixtures("lrup_solve")
-PACKERS = {"xz": ["xz", "-k"], "gz": ["gzip", "-k"], "bz2": ["bzip2", "-k"], "zst": ["zstd", "-q"]}
 CHECK = SOLVE.with_name("lrup-check")
 NAME: Callable[[Path], str] = lambda path: path.name
 
@@ -26,11 +25,8 @@ def ending(request: pytest.FixtureRequest) -> str:
 
 def packed(path: Path, ending: str) -> Path:
     """The packed file; the plain one gets another name, so that nothing can read it instead."""
-    needs(PACKERS[ending][0])
-    done = run([*PACKERS[ending], path])
-    assert done.status == 0, done.err
-    path.rename(path.with_name(f"{path.name}-plain"))
-    return path.with_name(f"{path.name}.{ending}")
+    shutil.copy(path, path.with_name(f"{path.name}-plain"))
+    return pack(path, ending)
 
 
 def copied(folder: Path) -> List[Path]:
@@ -150,7 +146,7 @@ def test_half_a_formula(program: str, tool: Path, ending: str, tmp_path: Path) -
     options: Dict[Path, List[object]] = {TRIM: ["--core", tmp_path / "core"],
                                          SOLVE: ["--lrupd", program], CHECK: ["--lrupd", program]}
     done = run([tool, *options.get(tool, []), cut, *[stream] * (tool != SOLVE)])
-    said = f"{tool.name}: {cut}: {PACKERS[ending][0]} can't unpack it"
+    said = f"{tool.name}: {cut}: {PACKERS[ending]} can't unpack it"
     assert (done.err.splitlines()[-1], done.status) == (said, 1)
 
 
@@ -158,7 +154,7 @@ def test_half_a_proof_of_lrup_exact(ending: str, tmp_path: Path) -> None:
     formula, stream = copied(tmp_path)
     cut = halved(stream, ending)
     done = run([FILTER, formula, cut])
-    said = f"lrup-exact: {cut}: {PACKERS[ending][0]} can't unpack it"
+    said = f"lrup-exact: {cut}: {PACKERS[ending]} can't unpack it"
     assert (done.err.splitlines()[-1], done.status) == (said, 1)
 
 
@@ -167,7 +163,7 @@ def test_half_a_proof_of_lrup_check(program: str, ending: str, tmp_path: Path) -
     formula, stream = copied(tmp_path)
     cut = halved(stream, ending)
     done = run([CHECK, "--lrupd", program, formula, cut])
-    assert f"{cut}: it can't be read: {PACKERS[ending][0]} can't unpack it\n" in done.out
+    assert f"{cut}: it can't be read: {PACKERS[ending]} can't unpack it\n" in done.out
     assert "UNSAT" not in done.out
     assert done.status in (1, 3)
 
@@ -177,7 +173,7 @@ def test_not_compressed(program: str, tool: Path, ending: str, tmp_path: Path) -
     formula, stream = copied(tmp_path)
     wrong = formula.rename(f"{formula}.{ending}")
     done = run([tool, *["--lrupd", program] * (tool == CHECK), wrong, stream])
-    said = f"{tool.name}: {wrong}: {PACKERS[ending][0]} can't unpack it"
+    said = f"{tool.name}: {wrong}: {PACKERS[ending]} can't unpack it"
     assert (done.out, done.status) == ("", 1)
     assert done.err.splitlines()[-1] == said
 
@@ -189,5 +185,5 @@ def test_without_the_unpacking_program(program: str, tool: Path, ending: str,
     small = packed(formula, ending)
     done = run([tool, *["--lrupd", program] * (tool == CHECK), small, stream],
                env={"PATH": str(tmp_path)})
-    said = f"{tool.name}: {small}: no {PACKERS[ending][0]} on the PATH\n"
+    said = f"{tool.name}: {small}: no {PACKERS[ending]} on the PATH\n"
     assert done == Ran("", said, 1)

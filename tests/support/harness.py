@@ -56,6 +56,8 @@ FOUR = "p cnf 2 4\n1 2 0\n-1 2 0\n1 -2 0\n-1 -2 0\n"
 # The first bytes of files that these programs unpack.
 COMPRESSED = {"zcat": b"\x1f\x8b\x08\0", "xzcat": b"\xfd7zXZ\0", "bzcat": b"BZh9",
               "zstdcat": b"\x28\xb5\x2f\xfd"}
+# By the endings of files that they pack.
+PACKERS = {"xz": "xz", "gz": "gzip", "bz2": "bzip2", "zst": "zstd"}
 VERDICTS = {0: "s UNSATISFIABLE", 3: "s UNKNOWN", 8: "s UNSATISFIABLE UNDER ASSUMPTIONS"}
 
 # A shell starts background processes with the first two of these signals ignored, and nohup starts
@@ -182,6 +184,14 @@ def written(text: Union[str, bytes], folder: Path, name: str = "formula.cnf") ->
     path.parent.mkdir(exist_ok=True)
     path.write_bytes(text.encode() if isinstance(text, str) else text)
     return path
+
+
+def pack(path: Path, ending: str) -> Path:
+    """Puts the packed file, whose name has this ending, in the place of the plain one."""
+    needs(PACKERS[ending])
+    done = run([PACKERS[ending], "-q", *["--rm"] * (ending == "zst"), path])
+    assert done.status == 0, done.err
+    return path.with_name(f"{path.name}.{ending}")
 
 
 def link_over(place: Path, target: Path, how: str) -> None:
