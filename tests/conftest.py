@@ -130,6 +130,13 @@ def much_memory() -> None:
     harness.need_much_memory()
 
 
+@pytest.fixture
+def mark(tmp_path: Path) -> str:
+    """What the environment of each process has that the test starts."""
+    import solving
+    return solving.marked(tmp_path)
+
+
 @pytest.fixture(scope="session")
 def lrup_solve() -> None:
     """Builds lrup-solve, or says why its tests can't run."""
