@@ -4,15 +4,17 @@ import hashlib
 import os
 import random
 import re
+import shutil
 import signal
 import subprocess
 from pathlib import Path
 from typing import Callable, Dict, List, Mapping, Optional, Sequence, Tuple
 
-from harness import TRIM, run, started, until, want
+from harness import TRIM, run, started, until
 from lrat import lrat_fault
 from proof_forms import read_formula
-from solving import Answer, check_again, command, in_environment, none_left, want_answer
+from solving import (MODELS, Answer, check_again, command, in_environment, none_left,
+                     want_answer)
 
 UNKNOWN = "s UNKNOWN"
 TRIES = 20
@@ -27,18 +29,37 @@ def saved_rounds(kept: Path) -> int:
 
 def recorded(words: Sequence[object], kept: Path, least: int,
              tested: Optional[Mapping[str, object]]) -> None:
-    """Makes the record of a run that is killed once it has saved this many rounds. A run that ends
-    before that is tried again."""
+    """Makes the record of a run that is killed once it has saved this many rounds."""
+    killed_once(f"{least} rounds are saved", lambda: saved_rounds(kept) > least, words, kept,
+                tested)
+
+
+def killed_once(what: str, holds: Callable[[], bool], words: Sequence[object], kept: Path,
+                tested: Optional[Mapping[str, object]]) -> None:
+    """Makes the record of a run that is killed once this holds. A run that ends before that is
+    tried again."""
     for _ in range(TRIES):
         with started(command(["--proofs", kept, "--replace", *words], tested),
                      env=in_environment(tested), stdout=subprocess.DEVNULL) as running:
-            until(f"{least} rounds are saved",
-                  lambda: saved_rounds(kept) > least or running.poll() is not None)
+            until(what, lambda: holds() or running.poll() is not None)
             running.kill()
         none_left(f"LRUP_MARK={os.environ['LRUP_MARK']}")
-        if running.returncode == -signal.SIGKILL and saved_rounds(kept) > least:
+        if running.returncode == -signal.SIGKILL and holds():
             return
-    raise AssertionError(f"the run ended {TRIES} times before {least} rounds were saved")
+    raise AssertionError(f"the run ended {TRIES} times before this: {what}")
+
+
+def only_with(tools: Sequence[str], work: Path) -> Dict[str, str]:
+    """The environment with a PATH that has only these programs, lrup-model, and what lrup-recheck
+    may call."""
+    place = work / "programs"
+    place.mkdir()
+    for name in [*tools, "sh", "tr", "cat", "head", "find", "mktemp", "mkfifo", "ln", "rm", "perl"]:
+        found = shutil.which(name)
+        if found:
+            (place / name).symlink_to(os.path.realpath(found))
+    (place / "lrup-model").symlink_to(MODELS / "lrup-model")
+    return {**os.environ, "PATH": str(place)}
 
 
 def checkpoints(kept: Path) -> List[str]:
@@ -53,7 +74,7 @@ def way_on(answer: Answer, kept: Path, formula: Path) -> Tuple[int, bool]:
                          rf"--resume {kept} {formula} continues the run",
                          line) for line in answer.comments]
     found = [one for one in said if one]
-    want(len(found), 1, f"whether a comment says how to continue, in\n{answer.out}{answer.said}")
+    assert len(found) == 1, f"one comment should say how to continue\n{answer.out}{answer.said}"
     return int(found[0][1]), found[0][2] is not None
 
 
@@ -61,8 +82,9 @@ def whole(kept: Path, formula: Path, work: Path) -> None:
     """Checks a record that has the whole proof."""
     check_again(kept)
     lrat = work / "lrat"
-    want(run([TRIM, "--lrat", lrat, formula, kept]).status, 0, "the status of lrup-trim")
-    want(lrat_fault(read_formula(formula), lrat.read_text()), "", "what the LRAT checker says")
+    done = run([TRIM, "--lrat", lrat, formula, kept])
+    assert done.status == 0, done.err
+    assert lrat_fault(read_formula(formula), lrat.read_text()) == ""
     lrat.unlink()
 
 
@@ -167,11 +189,11 @@ def want_no_other(answer: Answer, status: int, formula: Path, kept: Path, names:
     if answer.status == status:
         answer.said = ""
         return want_answer(answer, status, formula)
-    want((answer.answers, answer.status in (0, 1)), ([UNKNOWN] if answer.status == 0 else [], True),
-         f"the answer of\n{answer.out}{answer.said}")
+    assert answer.status in (0, 1), answer.out + answer.said
+    assert answer.answers == [UNKNOWN] * (answer.status == 0), answer.out + answer.said
     said = answer.said if answer.status == 1 else answer.out
-    want(any(f"{kept}/{name}" in said for name in names.split("|")), True,
-         f"whether one of {names} is named in\n{answer.out}{answer.said}")
+    assert any(f"{kept}/{name}" in said for name in names.split("|")), (
+        f"none of {names} is named\n{answer.out}{answer.said}")
 
 
 def with_digests(kept: Path) -> None:
