@@ -6,7 +6,6 @@ pass its own check, and the tools have to read it. If streams can't be packed, t
 are."""
 import hashlib
 import os
-import random
 import re
 import shlex
 import shutil
@@ -18,18 +17,35 @@ from typing import Dict, List, Optional, Sequence
 
 import pytest
 
-from harness import (EXPLAIN, LRUP_RECHECK, PROGRAM, Ran, Row, generated, needs, parametrized, run,
-                     started, until, want, written)
-from records import checkpoints, recorded, saved_rounds, way_on, whole
-from solving import (MODELS, Answer, children_of, command, in_environment, listed, marked,
-                     none_left, solve, want_answer)
+from harness import (EXPLAIN, LIMIT, LRUP_RECHECK, PROGRAM, Ran, generated, needs, pack, run,
+                     started, until, written)
+from records import (checkpoints, killed_once, only_with, recorded, saved_rounds, way_on,
+                     whole)
+from solving import (Answer, children_of, command, in_environment, is_alive, listed, none_left,
+                     solve, want_answer)
 
+pytestmark = pytest.mark.usefixtures("solve_for_tests", "zstd")
 SMALL = {"SAME_WORDS": 1, "SLICE": 20, "FIRST_WORDS": 4000, "PACKED_FROM": 1}
 UNPACKED = {**SMALL, "PACKED_FROM": 1 << 40}
-PACKERS = {"xz": "xz", "gz": "gzip", "bz2": "bzip2", "zst": "zstd"}
-TRIES = 20
 NOT_YET = "streams aren't packed yet: zstd couldn't"
 NOTE = "packed: streams by zstd, whose SHA-256s are those of the unpacked ones"
+
+
+@pytest.fixture
+def zstd() -> None:
+    """lrup-solve packs by zstd."""
+    needs("zstd")
+
+
+@pytest.fixture
+def formula(tmp_path: Path) -> Path:
+    return generated("pigeons 7", tmp_path)
+
+
+@pytest.fixture
+def kept(mark: str, tmp_path: Path) -> Path:
+    """The folder of the record, of a run in small rows."""
+    return tmp_path / "kept"
 
 
 def packed(kept: Path) -> List[str]:
@@ -48,9 +64,17 @@ def replaced(kept: Path) -> List[str]:
     return [name for name in packed(kept) if name[:-len(".zst")] not in streams]
 
 
+def round_of(name: str) -> int:
+    return int(name[len("round-"):].split(".")[0])
+
+
+def unpacked(path: Path) -> bytes:
+    done = subprocess.run(["zstd", "-dcq", path], check=True, stdout=subprocess.PIPE)
+    return done.stdout
+
+
 def with_zstd(body: str, work: Path) -> Dict[str, str]:
     """An environment in which zstd does this first if it packs."""
-    needs("zstd")
     own = shlex.quote(str(shutil.which("zstd")))
     path = written(f"#!/bin/sh\ncase $1 in -1*) {body};; esac\nexec {own} \"$@\"\n", work,
                    "bin/zstd")
@@ -58,84 +82,59 @@ def with_zstd(body: str, work: Path) -> Dict[str, str]:
     return {"PATH": f"{path.parent}:{os.environ['PATH']}"}
 
 
-def without_zstd(work: Path) -> Dict[str, str]:
-    """An environment whose PATH leads to what the record's command calls, but not to zstd."""
-    (work / "programs").mkdir()
-    for name in ("sh", "tr", "find", "mktemp", "mkfifo", "ln", "rm", "rmdir", "sha256sum"):
-        found = shutil.which(name)
-        if found:
-            (work / "programs" / name).symlink_to(os.path.realpath(found))
-    (work / "programs" / "lrup-model").symlink_to(MODELS / "lrup-model")
-    return {"PATH": str(work / "programs")}
-
-
 def recorded_packed(words: Sequence[object], kept: Path) -> None:
-    """Makes the record of a run that is killed once it has packed something. A run that ends before
-    that is tried again."""
-    for _ in range(TRIES):
-        with started(command(["--proofs", kept, "--replace", *words], SMALL),
-                     env=in_environment(SMALL), stdout=subprocess.DEVNULL) as running:
-            until("something is packed", lambda: running.poll() is not None or replaced(kept) != [])
-            running.kill()
-        none_left(f"LRUP_MARK={os.environ['LRUP_MARK']}")
-        if running.returncode == -signal.SIGKILL and replaced(kept):
-            return
-    raise AssertionError(f"the run ended {TRIES} times before anything was packed")
+    """Makes the record of a run that is killed once it has packed something."""
+    killed_once("something is packed", lambda: replaced(kept) != [], words, kept, SMALL)
 
 
 def pack_saved(forms: Sequence[Optional[str]], kept: Path) -> None:
     """Packs the streams of saved rounds in these forms in turn; None leaves a stream as it is."""
     for number, name in enumerate(plain(kept)):
         form = forms[number % len(forms)]
-        if form and int(name.split("-")[1].split(".")[0]) < saved_rounds(kept):
-            needs(PACKERS[form])
-            done = run([PACKERS[form], "-q", *["--rm"] * (form == "zst"), kept / name])
-            want(done.status, 0, "the packer's status")
+        if form and round_of(name) < saved_rounds(kept):
+            pack(kept / name, form)
 
 
-def sound(kept: Path) -> None:
+def want_tidy(kept: Path) -> None:
     """No stream is there twice, and nothing is unfinished."""
-    want(sorted({name[:-4] for name in packed(kept)} & set(plain(kept))), [],
-         "streams that are there twice")
-    want([path.name for path in kept.iterdir() if path.name.startswith(".")], [],
-         "what is unfinished")
+    assert {name[:-len(".zst")] for name in packed(kept)} & set(plain(kept)) == set()
+    assert [path.name for path in kept.iterdir() if path.name.startswith(".")] == []
 
 
-def proved(kept: Path, formula: Path, work: Path) -> None:
+def want_proved(kept: Path, formula: Path, work: Path) -> None:
     """The whole record is read by its command and by all tools, and `about` has the digests of the
     unpacked streams."""
-    sound(kept)
+    want_tidy(kept)
     whole(kept, formula, work)
-    want(run([EXPLAIN, formula, kept]), Ran("no line is bad\n", "", 0), "lrup-explain's output")
+    assert run([EXPLAIN, formula, kept]) == Ran("no line is bad\n", "", 0)
     done = run([LRUP_RECHECK, "--lrupd", PROGRAM, kept])
-    want((done.out.splitlines()[-1:], done.err, done.status), (["s UNSATISFIABLE"], "", 0),
-         "the end of lrup-recheck's output")
-    about = (kept / "about").read_text()
-    want(NOTE in about.splitlines(), packed(kept) != [], "whether `about` says that it is packed")
+    assert (done.err, done.status) == ("", 0)
+    assert done.out.splitlines()[-1] == "s UNSATISFIABLE"
+    about = (kept / "about").read_text().splitlines()
+    assert (NOTE in about) == bool(packed(kept))
     for name in packed(kept):
-        digest = hashlib.sha256(subprocess.run(["zstd", "-dcq", kept / name], check=True,
-                                               stdout=subprocess.PIPE).stdout).hexdigest()
-        want(f"{digest}  {name[:-4]}\n" in about, True, f"the digest of {name}")
-        want(name in listed(kept), True, f"whether {name} is listed")
+        digest = hashlib.sha256(unpacked(kept / name)).hexdigest()
+        assert f"{digest}  {name[:-len('.zst')]}" in about
+        assert name in listed(kept)
 
 
-def by_runs(options: Sequence[str], work: Path) -> None:
-    """A run that was killed has packed what it had saved; the run that resumes it goes on so."""
-    needs("zstd")
-    marked(work)
-    formula, kept = generated("pigeons 7", work), work / "kept"
+# Runs that pack.
+
+
+@pytest.mark.parametrize("options", [["-j", "1"], ["-j", "2"], ["-j", "3", "--no-share"]],
+                         ids=" ".join)
+def test_a_killed_run_that_has_packed_is_resumed(options: List[str], formula: Path, kept: Path,
+                                                 tmp_path: Path) -> None:
     recorded_packed([*options, formula], kept)
     answer = solve(["-v", *options, "--resume", kept, formula], tested=SMALL)
     want_answer(answer, 20)
-    want("lrupd has read what was saved" in answer.comments, True, "whether a comment says so")
-    proved(kept, formula, work)
+    assert "lrupd has read what was saved" in answer.comments
+    want_proved(kept, formula, tmp_path)
 
 
-def resumed_often(work: Path) -> None:
-    """Each run goes on from the packed rounds of the ones before, and all end by a signal."""
-    needs("zstd")
-    marked(work)
-    formula, kept, rounds = generated("pigeons 10", work), work / "kept", 0
+def test_runs_that_get_a_signal_pack_what_they_add(mark: str, kept: Path, tmp_path: Path) -> None:
+    """Each run goes on from the packed rounds of the ones before."""
+    formula, rounds = generated("pigeons 10", tmp_path), 0
     for word in ("--proofs", "--resume", "--resume"):
         with started(command(["-j", "2", word, kept, formula], SMALL), env=in_environment(SMALL),
                      text=True, stdout=subprocess.PIPE, stderr=subprocess.PIPE) as running:
@@ -143,48 +142,26 @@ def resumed_often(work: Path) -> None:
             until(f"{first} is there", lambda: first in replaced(kept))
             running.send_signal(signal.SIGTERM)
             answer = Answer(Ran(*running.communicate(timeout=60), running.returncode))
-        none_left(f"LRUP_MARK={os.environ['LRUP_MARK']}")
+        none_left(mark)
         before, (rounds, is_lost) = rounds, way_on(answer, kept, formula)
-        want((rounds > before, is_lost, first in packed(kept)), (True, False, True),
-             f"what is saved, in\n{answer.out}")
-        sound(kept)
+        assert rounds > before, answer.out
+        assert not is_lost, answer.out
+        assert first in packed(kept)
+        want_tidy(kept)
 
 
-def large_only(work: Path) -> None:
+def test_only_large_streams_are_packed(kept: Path, tmp_path: Path) -> None:
     """Without a hook only streams of 1 MB or more are packed."""
-    needs("zstd")
-    formula, kept = generated("pigeons 11", work), work / "kept"
+    formula = generated("pigeons 11", tmp_path)
     answer = solve(["-j", "2", "--save-every", "2", "--time", "9", "--proofs", kept, formula])
     want_answer(answer, 0)
-    sound(kept)
+    want_tidy(kept)
     assert packed(kept), os.listdir(kept)
-    for name in packed(kept):
-        done = subprocess.run(["zstd", "-dcq", kept / name], check=True, stdout=subprocess.PIPE)
-        assert len(done.stdout) >= 1 << 20, name
-    rounds = way_on(answer, kept, formula)[0]
-    for name in plain(kept):
-        is_last = int(name.split("-")[1].split(".")[0]) >= rounds
-        assert is_last or (kept / name).stat().st_size < 1 << 20, name
-
-
-def killed_packer(name: str, work: Path) -> None:
-    """The run goes on, tells it once, and packs these streams with the next round's."""
-    marked(work)
-    formula, kept, slow = generated("pigeons 8", work), work / "kept", with_zstd("sleep 1", work)
-    with started(command(["-j", "2", "--proofs", kept, formula], SMALL),
-                 env=in_environment(SMALL, slow), text=True, stdout=subprocess.PIPE,
-                 stderr=subprocess.PIPE) as running:
-        for _ in range(2):
-            until("something is packed", lambda: name in tree(running.pid)
-                  or running.poll() is not None)
-            if name in tree(running.pid):
-                os.kill(tree(running.pid)[name], signal.SIGKILL)
-            until("it has ended", lambda: name not in tree(running.pid))
-        answer = Answer(Ran(*running.communicate(timeout=300), running.returncode))
-    none_left(f"LRUP_MARK={os.environ['LRUP_MARK']}")
-    want_answer(answer, 20)
-    want(answer.comments.count(NOT_YET), 1, f"how often it is said in\n{answer.out}")
-    proved(kept, formula, work)
+    small = [name for name in packed(kept) if len(unpacked(kept / name)) < 1 << 20]
+    assert small == []
+    saved = way_on(answer, kept, formula)[0]
+    large = [name for name in plain(kept) if (kept / name).stat().st_size >= 1 << 20]
+    assert [name for name in large if round_of(name) < saved] == []
 
 
 def tree(pid: int) -> Dict[str, int]:
@@ -196,118 +173,151 @@ def tree(pid: int) -> Dict[str, int]:
     return found
 
 
-def killed_while_packing(work: Path) -> None:
-    """Everything is killed at once while something is packed, and resumed."""
-    marked(work)
-    formula, kept = generated("pigeons 7", work), work / "kept"
-    slow = with_zstd("head -c 1000; sleep 100", work)
+@pytest.mark.parametrize("name", ["packer", "zstd"])
+def test_a_packer_that_is_killed(name: str, mark: str, kept: Path, tmp_path: Path) -> None:
+    """The run goes on, tells it once, and packs these streams with the next round's."""
+    formula, slow = generated("pigeons 8", tmp_path), with_zstd("sleep 1", tmp_path)
+    with started(command(["-j", "2", "--proofs", kept, formula], SMALL),
+                 env=in_environment(SMALL, slow), text=True, stdout=subprocess.PIPE,
+                 stderr=subprocess.PIPE) as running:
+        for _ in range(2):
+            until("something is packed", lambda: name in tree(running.pid)
+                  or running.poll() is not None)
+            pid = tree(running.pid).get(name, 0)
+            if pid:
+                os.kill(pid, signal.SIGKILL)
+                until("it has ended", lambda: not is_alive(pid))
+        answer = Answer(Ran(*running.communicate(timeout=LIMIT), running.returncode))
+    none_left(mark)
+    want_answer(answer, 20)
+    assert answer.comments.count(NOT_YET) == 1, answer.out
+    want_proved(kept, formula, tmp_path)
+
+
+def test_a_run_that_is_killed_while_it_packs(formula: Path, mark: str, kept: Path,
+                                             tmp_path: Path) -> None:
+    """Everything is killed at once. The resumed run leaves no trace of that."""
+    slow = with_zstd("head -c 1000; sleep 100", tmp_path)
     with started(command(["-j", "2", "--proofs", kept, formula], SMALL),
                  env=in_environment(SMALL, slow), stdout=subprocess.DEVNULL) as running:
         until("something is packed", lambda: list(kept.glob(".*.zst.new")) != []
               and saved_rounds(kept) > 3)
         running.kill()
-    none_left(f"LRUP_MARK={os.environ['LRUP_MARK']}")
-    want(packed(kept), [], "what is packed")
+    none_left(mark)
+    assert packed(kept) == []
     want_answer(solve(["-j", "2", "--resume", kept, formula], tested=SMALL), 20)
-    want(checkpoints(kept), [], "what is left in the record")
-    proved(kept, formula, work)
+    assert checkpoints(kept) == []
+    want_proved(kept, formula, tmp_path)
 
 
-def left_twice(work: Path) -> None:
-    """A killed run may leave a stream and its packed form, of which a resumed run removes one."""
-    needs("zstd")
-    marked(work)
-    formula, kept = generated("pigeons 7", work), work / "kept"
-    recorded(["-j", "2", formula], kept, 3, UNPACKED)
-    want(run(["zstd", "-q", *(kept / name for name in plain(kept)[:3])]).status, 0, "zstd's status")
-    answer = solve(["-j", "2", "--resume", kept, formula], tested=UNPACKED)
+@pytest.mark.parametrize("body", ["ulimit -f 0", "exit 1", "head -c 100; exit 1", "kill -9 $$"])
+def test_zstd_fails(body: str, formula: Path, kept: Path, tmp_path: Path) -> None:
+    """As if the disk were full: the streams stay, and the run isn't disturbed."""
+    answer = solve(["-j", "2", "--proofs", kept, formula], tested=SMALL,
+                   env_more=with_zstd(body, tmp_path))
     want_answer(answer, 20)
-    want(packed(kept), [], "what is packed")
-    proved(kept, formula, work)
+    assert answer.comments.count(NOT_YET) == 1, answer.out
+    assert packed(kept) == []
+    want_proved(kept, formula, tmp_path)
 
 
-def unwritten(body: str, work: Path) -> None:
-    """zstd fails, as if the disk were full: the streams stay, and the run isn't disturbed."""
-    marked(work)
-    formula, kept, fails = generated("pigeons 7", work), work / "kept", with_zstd(body, work)
-    answer = solve(["-j", "2", "--proofs", kept, formula], tested=SMALL, env_more=fails)
+def test_without_zstd_nothing_is_packed(formula: Path, kept: Path, tmp_path: Path) -> None:
+    answer = solve(["-j", "2", "--proofs", kept, formula], tested=SMALL,
+                   env_more=only_with([], tmp_path))
     want_answer(answer, 20)
-    want((answer.comments.count(NOT_YET), packed(kept)), (1, []),
-         f"how often it is said in\n{answer.out}, and what is packed")
-    proved(kept, formula, work)
+    assert NOT_YET not in answer.comments
+    assert packed(kept) == []
+    want_proved(kept, formula, tmp_path)
 
 
-def no_zstd(work: Path) -> None:
-    """Nothing is packed. A packed record can't be resumed, and stays as it is."""
-    needs("zstd")
-    marked(work)
-    formula, kept, none = generated("pigeons 7", work), work / "kept", without_zstd(work)
-    answer = solve(["-j", "2", "--proofs", kept, formula], tested=SMALL, env_more=none)
-    want_answer(answer, 20)
-    want((packed(kept), NOT_YET in answer.comments), ([], False), "what is packed")
-    proved(kept, formula, work)
+def test_without_zstd_a_packed_record_is_not_resumed(formula: Path, kept: Path,
+                                                     tmp_path: Path) -> None:
+    """The record stays as it is, and can be resumed once zstd is there."""
     recorded_packed(["-j", "2", formula], kept)
     before = {path: path.read_bytes() for path in kept.iterdir()}
-    answer = solve(["-j", "2", "--resume", kept, formula], tested=SMALL, env_more=none)
-    want((answer.out, answer.said, answer.status),
-         ("", f"lrup-solve: {kept}/{packed(kept)[0]}: no zstd on the PATH\n", 1), "the message")
-    want({path: path.read_bytes() for path in kept.iterdir()}, before, "the record")
-    want_answer(solve(["-j", "2", "--resume", kept, formula], tested=SMALL), 20)
-    proved(kept, formula, work)
+    words = ["-j", "2", "--resume", kept, formula]
+    answer = solve(words, tested=SMALL, env_more=only_with([], tmp_path))
+    assert (answer.out, answer.status) == ("", 1)
+    assert answer.said == f"lrup-solve: {kept}/{packed(kept)[0]}: no zstd on the PATH\n"
+    assert {path: path.read_bytes() for path in kept.iterdir()} == before
+    want_answer(solve(words, tested=SMALL), 20)
+    want_proved(kept, formula, tmp_path)
 
 
-def by_the_user(forms: Sequence[Optional[str]], work: Path) -> None:
-    """Saved streams that were packed in several forms."""
-    marked(work)
-    formula, kept = generated("pigeons 7", work), work / "kept"
+# Records that are packed by others, or were changed.
+
+
+def test_a_stream_that_was_left_beside_its_packed_form(formula: Path, kept: Path,
+                                                       tmp_path: Path) -> None:
+    """A killed run may leave both, of which a resumed run removes one."""
+    recorded(["-j", "2", formula], kept, 3, UNPACKED)
+    assert run(["zstd", "-q", *(kept / name for name in plain(kept)[:3])]).status == 0
+    want_answer(solve(["-j", "2", "--resume", kept, formula], tested=UNPACKED), 20)
+    assert packed(kept) == []
+    want_proved(kept, formula, tmp_path)
+
+
+@pytest.mark.parametrize("forms", [["zst"], ["gz", "bz2", None], ["xz", "zst", "gz"]],
+                         ids=["zst", "gz, bz2 and none", "xz, zst and gz"])
+def test_streams_that_the_user_has_packed(forms: List[Optional[str]], formula: Path, kept: Path,
+                                          tmp_path: Path) -> None:
     recorded(["-j", "2", formula], kept, 3, UNPACKED)
     pack_saved(forms, kept)
     want_answer(solve(["-j", "2", "--resume", kept, formula], tested=SMALL), 20)
-    sound(kept)
-    whole(kept, formula, work)
+    want_tidy(kept)
+    whole(kept, formula, tmp_path)
 
 
-def changed(what: str, number: int, work: Path) -> None:
-    """A packed stream that was truncated, or isn't packed, or is another one: the record ends
-    before its round, unless it is the first one. The run can be resumed from there."""
-    needs("zstd")
-    marked(work)
-    formula, kept, numbers = generated("pigeons 7", work), work / "kept", random.Random(what)
+@pytest.fixture
+def packed_record(formula: Path, kept: Path) -> Path:
+    """The record of a killed run, with four saved rounds or more, whose streams were packed."""
     recorded(["-j", "2", formula], kept, 4, UNPACKED)
     pack_saved(["zst"], kept)
-    path = kept / f"round-{number}.stream-2.zst"
+    return kept
+
+
+def change(path: Path, how: str) -> None:
+    """A packed stream is truncated, or isn't packed, or is that of another engine."""
     text = path.read_bytes()
-    path.write_bytes({"truncated": text[:numbers.randrange(len(text))],
-                      "garbled": b"no zstd\n" + text,
-                      "another": (kept / f"round-{number}.stream-1.zst").read_bytes()}[what])
-    answer = solve(["-j", "2", "--resume", kept, formula], tested=SMALL)
-    want_answer(answer, 0)
-    said = f"{kept}/round-{number}.stream-2 was changed since it was saved"
-    assert any(line.startswith(said) for line in answer.comments), answer.out
-    if number == 1:
-        path.write_bytes(text)
+    if how == "truncated":
+        path.write_bytes(text[:len(text) // 2])
+    elif how == "garbled":
+        path.write_bytes(b"no zstd\n" + text)
     else:
-        want((way_on(answer, kept, formula), saved_rounds(kept)), ((number - 1, True), number),
-             f"what is left, in\n{answer.out}")
-    want_answer(solve(["-j", "2", "--resume", kept, formula], tested=SMALL), 20)
-    proved(kept, formula, work)
+        path.write_bytes(path.with_name(path.name.replace("stream-2", "stream-1")).read_bytes())
 
 
-def rows() -> List[Row]:
-    found: List[Row] = [(f"by runs, {' '.join(options)}", by_runs, options)
-                        for options in (["-j", "1"], ["-j", "2"], ["-j", "3", "--no-share"])]
-    found += [("resumed often", resumed_often), ("large streams", large_only)]
-    found += [(f"{name} is killed", killed_packer, name) for name in ("packer", "zstd")]
-    found += [("killed while it packs", killed_while_packing), ("left twice", left_twice),
-              ("no zstd", no_zstd)]
-    found += [(f"zstd does: {body}", unwritten, body)
-              for body in ("ulimit -f 0", "exit 1", "head -c 100; exit 1", "kill -9 $$")]
-    found += [(f"packed by the user, {forms}", by_the_user, forms)
-              for forms in (["zst"], ["gz", "bz2", None], ["xz", "zst", "gz"])]
-    found += [(f"a stream of round {number} is {what}", changed, what, number)
-              for number in (1, 3) for what in ("truncated", "garbled", "another")]
-    return found
+def resume_changed(path: Path, how: str, formula: Path) -> Answer:
+    """Resumes a run after this packed stream was changed. The run notices that, and ends."""
+    change(path, how)
+    answer = solve(["-j", "2", "--resume", path.parent, formula], tested=SMALL)
+    want_answer(answer, 0)
+    said = f"{path.with_suffix('')} was changed since it was saved"
+    assert any(line.startswith(said) for line in answer.comments), answer.out
+    return answer
 
 
-pytestmark = pytest.mark.usefixtures("solve_for_tests")     # no row is tried again
-test_row = parametrized(rows())
+each_change = pytest.mark.parametrize("how", ["truncated", "garbled", "another"])
+
+
+@each_change
+def test_a_changed_stream_of_round_1(how: str, packed_record: Path, formula: Path,
+                                     tmp_path: Path) -> None:
+    """The run can be resumed once the stream is as it was."""
+    stream = packed_record / "round-1.stream-2.zst"
+    text = stream.read_bytes()
+    resume_changed(stream, how, formula)
+    stream.write_bytes(text)
+    want_answer(solve(["-j", "2", "--resume", packed_record, formula], tested=SMALL), 20)
+    want_proved(packed_record, formula, tmp_path)
+
+
+@each_change
+def test_a_changed_stream_of_round_3(how: str, packed_record: Path, formula: Path,
+                                     tmp_path: Path) -> None:
+    """The record ends before this round, and the run can be resumed from there."""
+    answer = resume_changed(packed_record / "round-3.stream-2.zst", how, formula)
+    assert way_on(answer, packed_record, formula) == (2, True), answer.out
+    assert saved_rounds(packed_record) == 3
+    want_answer(solve(["-j", "2", "--resume", packed_record, formula], tested=SMALL), 20)
+    want_proved(packed_record, formula, tmp_path)
