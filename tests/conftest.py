@@ -27,6 +27,8 @@ def pytest_addoption(parser: pytest.Parser) -> None:
     given.addoption("--count", type=int, help="how many seeds a random test has, or how many "
                     "mutants a file")
     given.addoption("--first", type=int, default=0, help="the first mutant of a proof")
+    given.addoption("--part", default="1/1", metavar="K/N",
+                    help="only each N-th test, from the K-th on")
     given.addoption("--seed", type=int, default=1, help="the seed of test_lrup_solve_days")
     given.addoption("--minutes", type=float, default=0, help="how long test_lrup_solve_days lasts")
 
@@ -45,6 +47,16 @@ def pytest_generate_tests(metafunc: pytest.Metafunc) -> None:
     if mark:
         count = metafunc.config.getoption("count")
         metafunc.parametrize("seed", range(mark.args[0] if count is None else count))
+
+
+@pytest.hookimpl(trylast=True)  # type: ignore[misc]
+def pytest_collection_modifyitems(config: pytest.Config, items: List[pytest.Item]) -> None:
+    """Leaves the tests of --part, once others have been left out."""
+    part, parts = map(int, config.getoption("part").split("/"))
+    chosen, others = items[part - 1::parts], items[:]
+    del others[part - 1::parts]
+    config.hook.pytest_deselected(items=others)
+    items[:] = chosen
 
 
 Reported = Generator[None, Any, None]
