@@ -4,8 +4,8 @@
     python3 gate/tests.py --program LRUPD [--after build | --after ci] [NAME..] [-- OPTION..]
 
 NAME is a file test_NAME.py below tests/; without names all are run. Each has a pytest of its own,
-which gets the OPTIONs. Those that take longest by the clock, according to
-gate/seconds.txt, begin first.
+which gets the OPTIONs; one that takes long by the clock, according to gate/seconds.txt, has several,
+each for a part of its rows. What takes longest begins first.
 
 With --after build the tools are built, and the programs are proved by gate/build.py; files that
 need no lrupd run meanwhile. With --after ci, `rt ci` proves everything, tries the edits and tests
@@ -25,7 +25,7 @@ import tempfile
 import time
 from collections import Counter
 from pathlib import Path
-from typing import Dict, Iterator, List, Optional, Sequence, Tuple
+from typing import Dict, Iterator, List, NamedTuple, Optional, Sequence, Tuple
 
 sys.dont_write_bytecode = True
 import build
@@ -33,7 +33,8 @@ import build
 ROOT = build.ROOT
 SECONDS_FILE = ROOT / "gate" / "seconds.txt"
 CORES = build.CORES
-AT_ONCE = CORES + 2     # files of tests, since most tests wait now and then
+AT_ONCE = CORES + 2     # pytests, since most tests wait now and then
+A_PART = 150            # seconds by the clock that a part of a file of tests may take
 UNKNOWN = (20, 20)      # the seconds of a file of tests that was never measured
 QUIET = 30              # seconds after which a line says what is going on
 NO_ROWS = 5             # pytest's status if all rows of a file are left out
@@ -55,12 +56,31 @@ def clock(seconds: float) -> str:
     return f"{int(seconds) // 60}:{int(seconds) % 60:02}"
 
 
+class Tests(NamedTuple):
+    """Each N-th row of a file of tests, from the K-th on, and the seconds that these take."""
+    file: str
+    part: str       # K/N
+    used: int
+    elapsed: int
+
+    def title(self) -> str:
+        return self.file if self.part == "1/1" else f"{self.file} {self.part}"
+
+
+def parts_of(file: str, seconds: Tuple[int, int]) -> List[Tests]:
+    """The whole file, or parts that take as long as each other, and not too long."""
+    used, elapsed = seconds
+    count = 1 + elapsed // A_PART
+    return [Tests(file, f"{part}/{count}", used // count, elapsed // count)
+            for part in range(1, count + 1)]
+
+
 class Step:
-    """A command that runs, or has ended: a file of tests, a proof, or a check."""
+    """A command that runs, or has ended: rows of tests, a proof, or a check."""
 
     def __init__(self, name: str, words: Sequence[object], reckoned: int, nice: int = 0,
-                 is_tests: bool = False) -> None:
-        self.name, self.reckoned, self.is_tests = name, reckoned, is_tests
+                 tests: Optional[Tests] = None) -> None:
+        self.name, self.reckoned, self.tests = name, reckoned, tests
         self.began, self.used, self.took = time.monotonic(), 0, 0
         self.said = tempfile.TemporaryFile()
         self.status: Optional[int] = None
@@ -92,7 +112,7 @@ class Step:
         after SIGINT, and rt ends only after SIGTERM."""
         if not self.has_ended():
             with contextlib.suppress(ProcessLookupError):
-                os.killpg(self.process.pid, signal.SIGINT if self.is_tests else signal.SIGTERM)
+                os.killpg(self.process.pid, signal.SIGINT if self.tests else signal.SIGTERM)
             self.process.wait()
 
 
@@ -101,7 +121,6 @@ class Run:
 
     def __init__(self, options: argparse.Namespace) -> None:
         self.options = options
-        self.seconds = seconds_of_tests()
         self.running: List[Step] = []
         self.done: Dict[str, Step] = {}
         self.skipped: Counter[str] = Counter()
@@ -111,12 +130,13 @@ class Run:
         if not shutil.which(options.pytest.split()[0]):
             self.skipped["all tests of programs: pytest isn't installed"] += 1
             named = []
-        self.todo = sorted(named, key=lambda name: -self.seconds.get(name, UNKNOWN)[1])
+        seconds = seconds_of_tests()
+        self.todo = sorted((tests for name in named
+                            for tests in parts_of(name, seconds.get(name, UNKNOWN))),
+                           key=lambda tests: -tests.elapsed)
         self.began = self.said = time.monotonic()
-        self.all_seconds = sum(map(self.reckoned, self.todo)) + sum(self.proving().values())
-
-    def reckoned(self, name: str) -> int:
-        return self.seconds.get(name, UNKNOWN)[0]
+        self.all_seconds = (sum(tests.used for tests in self.todo)
+                            + sum(self.proving().values()))
 
     def proving(self) -> Dict[str, int]:
         if self.options.after == "build":
@@ -133,15 +153,15 @@ class Run:
         self.running.append(Step(name, words, reckoned, nice))
         return self.running[-1]
 
-    def start_tests(self, name: str, nice: int) -> None:
-        self.todo.remove(name)
+    def start_tests(self, tests: Tests, nice: int) -> None:
+        self.todo.remove(tests)
         options = self.options
         left_out = {"build": ["-m", "not long and not nightly and not of_crates"],
                     "ci": ["-m", "not long and not nightly"]}
         words = [*options.pytest.split(), f"--program={options.program}", f"--rt={options.rt}",
-                 *left_out.get(options.after, ["-m", "not nightly"]), *options.options,
-                 self.files[name]]
-        self.running.append(Step(name, words, self.reckoned(name), nice, is_tests=True))
+                 f"--part={tests.part}", *left_out.get(options.after, ["-m", "not nightly"]),
+                 *options.options, self.files[tests.file]]
+        self.running.append(Step(tests.title(), words, tests.used, nice, tests))
 
     def wait(self) -> None:
         """Waits a moment, and counts the steps that have ended."""
@@ -171,7 +191,7 @@ class Run:
         """Counts what passed and failed in a step that has ended, and prints it."""
         text = step.output()
         passed, failed = int(not step.status), int(bool(step.status))
-        if step.is_tests or step.name == "ci":
+        if step.tests or step.name == "ci":
             last = text.rstrip().rpartition("\n")[2]
             passed, failed = (sum(map(int, re.findall(rf"(\d+) {word}", last)))
                               for word in ("passed", "(?:failed|error)"))
@@ -196,15 +216,15 @@ class Run:
 
     def left(self) -> int:
         """The percentage of the processor seconds that is left."""
-        tests = sum(self.reckoned(name) for name in self.todo)
+        seconds = sum(tests.used for tests in self.todo)
         for step in self.running:
             if step.name == "build":
                 found = re.findall(r"; (\d+) % left", step.output()) or ["100"]
-                tests += int(found[-1]) * step.reckoned // 100
+                seconds += int(found[-1]) * step.reckoned // 100
             else:
                 passed = (time.monotonic() - step.began) * (CORES if step.name == "ci" else 0.5)
-                tests += round(max(step.reckoned / 20, step.reckoned - passed))
-        return 100 * tests // max(1, self.all_seconds)
+                seconds += round(max(step.reckoned / 20, step.reckoned - passed))
+        return 100 * seconds // max(1, self.all_seconds)
 
     def state(self) -> str:
         names = ", ".join(f"{step.name} ({step.elapsed()})" for step in self.running)
@@ -226,10 +246,12 @@ class Run:
         if options.after and not options.names:     # on cores that the proof leaves idle
             self.start("checks", ["make", "-s", "-k", f"-j{CORES}", *CHECKS], nice=19)
         while proof in self.running:
-            self.start_ready(CORES if options.after == "build" else 0, 19, WITHOUT_LRUPD)
+            self.start_ready(CORES if options.after == "build" else 0, 19,
+                             [tests for tests in self.todo if tests.file in WITHOUT_LRUPD])
             self.wait()
         if proof and proof.status:
-            self.skipped.update(f"{name}: lrupd isn't proved" for name in self.todo)
+            self.skipped.update(f"{file}: lrupd isn't proved"
+                                for file in {tests.file for tests in self.todo})
             self.todo = []
         elif options.after == "ci":
             build.put_programs(options.rt, sources, ROOT / options.program)
@@ -250,11 +272,11 @@ class Run:
             self.failed += 1
             self.say("\n".join(["links, which rt refuses:", *links]))
 
-    def start_ready(self, most: int, nice: int, names: Sequence[str]) -> None:
-        """Starts tests with these names, so that at most this many files run at once."""
-        ready = [name for name in self.todo if name in names]
-        for name in ready[:max(0, most - sum(step.is_tests for step in self.running))]:
-            self.start_tests(name, nice)
+    def start_ready(self, most: int, nice: int, ready: Sequence[Tests]) -> None:
+        """Starts some of these tests, so that at most this many pytests run at once."""
+        running = sum(step.tests is not None for step in self.running)
+        for tests in ready[:max(0, most - running)]:
+            self.start_tests(tests, nice)
 
     def end(self) -> None:
         for step in self.running:
@@ -268,11 +290,16 @@ class Run:
         print(f"{self.passed} passed, {self.failed} failed", flush=True)
 
     def write_seconds(self) -> None:
-        found = {**seconds_of_tests(), **{name: (step.used, step.took)
-                                          for name, step in self.done.items() if step.is_tests}}
+        used: Counter[str] = Counter()
+        elapsed: Counter[str] = Counter()
+        for step in self.done.values():
+            if step.tests:
+                used[step.tests.file] += step.used
+                elapsed[step.tests.file] += step.took
+        found = {**seconds_of_tests(), **{file: (used[file], elapsed[file]) for file in used}}
         text = re.sub(r"^tests .*\n", "", SECONDS_FILE.read_text(), flags=re.M)
-        SECONDS_FILE.write_text(text + "".join(f"tests {name} {used} {elapsed}\n" for
-                                               name, (used, elapsed) in sorted(found.items())))
+        SECONDS_FILE.write_text(text + "".join(f"tests {file} {one} {other}\n" for
+                                               file, (one, other) in sorted(found.items())))
 
 
 @contextlib.contextmanager

@@ -28,6 +28,8 @@ def pytest_addoption(parser: pytest.Parser) -> None:
     given.addoption("--count", type=int, help="how many seeds a random test has, or how many "
                     "mutants a file")
     given.addoption("--first", type=int, default=0, help="the first mutant of a proof")
+    given.addoption("--part", default="1/1", metavar="K/N",
+                    help="only each N-th test, from the K-th on")
     given.addoption("--seed", type=int, default=1,
                     help="the first seed of test_lrup_solve_days and test_lrup_solve_attack")
     given.addoption("--minutes", type=float, default=0, help="how long these two last")
@@ -57,6 +59,16 @@ def in_time(request: pytest.FixtureRequest) -> None:
     if minutes and not is_first and time.monotonic() > harness.BEGUN + 60 * minutes:
         session.shouldstop = f"{minutes} minutes have passed"
         pytest.skip(f"{minutes} minutes have passed")
+
+
+@pytest.hookimpl(trylast=True)  # type: ignore[misc]
+def pytest_collection_modifyitems(config: pytest.Config, items: List[pytest.Item]) -> None:
+    """Leaves the tests of --part, once others have been left out."""
+    part, parts = map(int, config.getoption("part").split("/"))
+    chosen, others = items[part - 1::parts], items[:]
+    del others[part - 1::parts]
+    config.hook.pytest_deselected(items=others)
+    items[:] = chosen
 
 
 Reported = Generator[None, Any, None]

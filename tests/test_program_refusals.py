@@ -310,15 +310,13 @@ class CratesTest(NamedTuple):
     """A crate's test, its answers if an allocation is refused, each of which has to occur, and for
     how many streams it starts threads. `always`: it reports each refusal, since all its allocations
     are made by calls that report refusals. `last`: the sweep ends at this allocation, since later
-    ones are for threads of the test that wait for each other. `looks`: it checks the refusal's
-    effect itself, and passes."""
+    ones are for threads of the test that wait for each other."""
     crate: str
     name: str
     causes: List[str]
     streams: int = 0
     always: bool = False
     last: Optional[int] = None
-    looks: bool = False
 
 
 def runs_of_portfolio() -> Iterator[CratesTest]:
@@ -357,9 +355,7 @@ TESTS = [
     CratesTest("propagate", "the_ninth_allocation_comes_after_all_calls",
                ["AllocError", "AllocFailed { .. }"], always=True),
     CratesTest("clause_store", "memory::the_last_allocation_comes_after_all_calls", ["AllocError"],
-               always=True),
-    # A created file is kept or discarded.
-    CratesTest("command", "refusals::memory_that_runs_out", [], 6, looks=True)]
+               always=True)]
 
 
 def program_of_tests(crate: str) -> str:
@@ -397,10 +393,7 @@ def causes_of(machine: Machine, test: CratesTest, kind: str) -> Iterator[str]:
 def test_each_allocation_of_a_crates_test_refused(test: CratesTest, tmp_path: Path) -> None:
     seen: Set[str] = set()
     for cause in causes_of(Machine(program_of_tests(test.crate), tmp_path), test, "allocate"):
-        if test.looks:
-            assert cause == ""
-        else:
-            assert cause in test.causes or not (cause or test.always)
+        assert cause in test.causes or not (cause or test.always)
         seen.add(cause)
     assert seen >= set(test.causes)
     assert seen, "nothing was refused"
@@ -414,13 +407,34 @@ def test_each_thread_of_a_crates_test_refused(test: CratesTest, tmp_path: Path) 
     machine, count = Machine(program_of_tests(test.crate), tmp_path), 0
     for cause in causes_of(machine, test, "thread"):
         assert count < 2 * test.streams
-        if test.looks:
-            assert cause == ""
-        else:
-            assert cause == f"Spawn({count % test.streams + 1})"
-            assert machine.has_waited_for(count), machine.threads()
+        assert cause == f"Spawn({count % test.streams + 1})"
+        assert machine.has_waited_for(count), machine.threads()
         count += 1
     assert count == 2 * test.streams
+
+
+def refused_in_runs_with_files(kind: str, first: int, step: int, work: Path) -> int:
+    """Refuses each step-th call of a crate's test, from the first one on: it passes, since it
+    checks itself that files are kept or discarded. Returns how many were refused."""
+    machine, count, was_refused = Machine(program_of_tests("command"), work), 0, True
+    while was_refused:
+        refuse = f"{kind}:{first + count * step}"
+        answer, was_refused, _ = machine.run(["tests::refusals::memory_that_runs_out"], refuse)
+        assert answer.status == 0, f"{refuse}: {answer}"
+        count += was_refused
+    return count
+
+
+@pytest.mark.of_crates
+@pytest.mark.parametrize("first", range(1, 11))
+def test_files_are_kept_or_discarded_without_memory(first: int, tmp_path: Path) -> None:
+    """There are nearly a thousand allocations: each row refuses one in ten."""
+    assert refused_in_runs_with_files("allocate", first, 10, tmp_path) > 0
+
+
+@pytest.mark.of_crates
+def test_files_are_kept_or_discarded_without_a_thread(tmp_path: Path) -> None:
+    assert refused_in_runs_with_files("thread", 1, 1, tmp_path) == 12
 
 
 @pytest.mark.of_crates

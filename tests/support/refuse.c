@@ -5,7 +5,8 @@
      thread:N       pthread_create returns EAGAIN. Each started thread begins LATE milliseconds
                     later, so a program that doesn't wait for it continues before that. At the next
                     write, MARK gets three numbers: how many threads were started, how many of them
-                    had begun, and how many ended within ten seconds
+                    had begun, and how many have ended, once as many have as were started before
+                    the refusal, or after ten seconds
      read:N:HOW     read; HOW is EIO, EINTR, `short` (one byte) or `half` (of the bytes asked for)
      write:N:HOW    write; HOW is EIO, ENOSPC, EPIPE, `short` or `half`
      open:N:HOW     an open without O_CREAT; HOW is EACCES, EMFILE, ENOENT or ELOOP
@@ -37,7 +38,7 @@ enum kind { NONE, ALLOCATE, THREAD, READ, WRITE, OPEN, CREATE, HOLD, SYNC };
 static enum kind refused = NONE;
 static long number, late;
 static const char *how = "", *mark = "";
-static atomic_long calls, started, begun, ended;
+static atomic_long calls, started, begun, ended, awaited;
 static atomic_int to_be_told;
 
 __attribute__((constructor)) static void begin(void) {
@@ -112,6 +113,7 @@ int pthread_create(pthread_t *thread, const pthread_attr_t *attributes, void *(*
                    void *argument) {
     static int (*create)(pthread_t *, const pthread_attr_t *, void *(*)(void *), void *);
     if (is_refused(THREAD)) {
+        atomic_store(&awaited, atomic_load(&started));
         atomic_store(&to_be_told, 1);
         return EAGAIN;
     }
@@ -129,7 +131,7 @@ int pthread_create(pthread_t *thread, const pthread_attr_t *attributes, void *(*
 static void tell_threads(void) {
     if (!atomic_exchange(&to_be_told, 0)) return;
     long had_begun = atomic_load(&begun);
-    for (int i = 0; i < 1000 && atomic_load(&ended) < atomic_load(&started); i++) sleep_for(10);
+    for (int i = 0; i < 1000 && atomic_load(&ended) < atomic_load(&awaited); i++) sleep_for(10);
     char text[64];
     int length = snprintf(text, sizeof text, "%ld %ld %ld\n", atomic_load(&started), had_begun,
                           atomic_load(&ended));
