@@ -4,8 +4,8 @@
     python3 gate/tests.py --program LRUPD [--after build | --after ci] [NAME..] [-- OPTION..]
 
 NAME is a file test_NAME.py below tests/; without names all are run. Each has a pytest of its own,
-which gets the OPTIONs; one that takes long by the clock, according to gate/seconds.txt, has several,
-each for a part of its rows. What takes longest begins first.
+which gets the OPTIONs; one that takes long by the clock, according to gate/seconds.txt, has
+several, each for a part of its rows. What takes longest begins first.
 
 With --after build the tools are built, and the programs are proved by gate/build.py; files that
 need no lrupd run meanwhile. With --after ci, `rt ci` proves everything, tries the edits and tests
