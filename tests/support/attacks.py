@@ -8,6 +8,7 @@ import re
 import shlex
 import shutil
 import signal
+import stat
 import subprocess
 from pathlib import Path
 from typing import Any, Callable, Dict, List, NamedTuple, Optional, Sequence, Set, Tuple
@@ -186,8 +187,10 @@ class Attack:
     def chosen_formula(self) -> Formula:
         if self.has_record:
             return self.records.other if self.chance(0.5) else self.records.formula
-        return self.choice(few_variables, few_variables, few_variables, planted, pigeons,
-                           *[refused] * self.chance(0.2))(self.numbers)
+        make: Callable[[random.Random], Formula] = self.choice(
+            few_variables, few_variables, few_variables, planted, pigeons,
+            *[refused] * self.chance(0.2))
+        return make(self.numbers)
 
     def truths(self) -> Set[str]:
         """All answers that are true, but for 's UNKNOWN'."""
@@ -220,12 +223,13 @@ class Attack:
 
     def stream(self) -> str:
         """A stream of lrupd, which may be right."""
-        formula, found = self.formula, None
+        formula = self.formula
+        right: Optional[str] = None
         if formula.clauses is not None and formula.variables <= MOST and self.chance(0.8):
-            found = refutation(formula.variables, formula.clauses, self.assumed or [])
-        if found is None:
-            found = self.choice(short_refutation(formula), PROOF, "", "0\n", "1 0\n", "a 1 0\n",
-                                "s UNSATISFIABLE\n", "\n")
+            right = refutation(formula.variables, formula.clauses, self.assumed or [])
+        found = right if right is not None else str(self.choice(
+            short_refutation(formula), PROOF, "", "0\n", "1 0\n", "a 1 0\n", "s UNSATISFIABLE\n",
+            "\n"))
         if found and self.chance(0.2):
             place = self.numbers.randrange(len(found))
             found = found[:place] + self.choice("0", " ", "1", "-", "\n", "d") + found[place + 1:]
@@ -316,11 +320,12 @@ class Attack:
             packed = subprocess.run([packer, "-c"], input=data, stdout=subprocess.PIPE)
             return self.spelled(self.new_file(packed.stdout, ending))
         self.is_refused = True
-        return self.numbers.choice((
+        name: Callable[[], str] = self.numbers.choice((
             lambda: self.spelled(self.new_path(), False), lambda: self.of_folder(self.home),
             lambda: "/dev/null", lambda: "/proc/self/mem",
             lambda: self.spelled(self.new_file(data), False) + "/",
-            lambda: self.spelled(self.new_file(data, ".gz"))))()
+            lambda: self.spelled(self.new_file(data, ".gz"))))
+        return name()
 
     def other_word(self, data: bytes) -> str:
         """The same for a file on which no answer depends."""
@@ -350,16 +355,18 @@ class Attack:
             (folder / "mine").write_text("mine\n")
         if kind == "foreign":
             name = folder / self.numbers.choice(UNLISTED)
-            self.numbers.choice((
+            make: Any = self.numbers.choice((
                 lambda: name.write_text("mine\n"), lambda: name.symlink_to("mine"),
-                lambda: name.symlink_to(self.home), name.mkdir, lambda: os.mkfifo(name)))()
+                lambda: name.symlink_to(self.home), name.mkdir, lambda: os.mkfifo(name)))
+            make()
         self.made.add(folder)
         return self.of_folder(folder)
 
     def change(self, folder: Path) -> None:
         with contextlib.suppress(IndexError, ValueError, OSError):  # there is no such file, or byte
             CHANGES[self.numbers.choice(sorted(CHANGES))](folder, self.numbers)
-            if self.chance(0.5):
+            are_files = all(stat.S_ISREG(path.lstat().st_mode) for path in folder.iterdir())
+            if are_files and self.chance(0.5):
                 with_digests(folder)
 
     def forge(self, folder: Path) -> None:
@@ -374,10 +381,11 @@ class Attack:
             path = self.new_path()
             self.made.add(path)
             return self.spelled(path, False)
-        return self.numbers.choice((
+        name: Callable[[], str] = self.numbers.choice((
             lambda: self.spelled(self.new_file(b"mine\n")), lambda: self.of_folder(self.home),
             lambda: "/dev/null", lambda: "/dev/full", lambda: self.record() + "/round-1.stream-1",
-            lambda: self.record() + "/core", lambda: self.spelled(self.new_path(), False) + "/"))()
+            lambda: self.record() + "/core", lambda: self.spelled(self.new_path(), False) + "/"))
+        return name()
 
     # Words.
 
@@ -396,11 +404,11 @@ class Attack:
     def hostile_program(self, body: str) -> Path:
         folder = self.place / str(self.number())
         folder.mkdir()
-        return program(body, folder)
+        return program(HELPERS + body, folder)
 
     def solver(self) -> str:
         proof = shlex.quote(str(self.new_file(self.proof())))
-        return self.numbers.choice((
+        make: Callable[[], str] = self.numbers.choice((
             lambda: "cadical -q %formula %proof", lambda: "cadical -q --no-binary %formula %proof",
             lambda: "false %formula %proof",
             lambda: f"cat {proof} > %proof; : %formula",
@@ -408,7 +416,8 @@ class Attack:
             lambda: "echo s UNSATISFIABLE; : %formula %proof", lambda: ": %formula %proof; exit 20",
             lambda: "echo s SATISFIABLE; echo v -1 0; : %formula %proof; exit 10",
             lambda: "sleep 100; : %formula %proof",
-            lambda: f"{self.hostile_program(self.hostile_body())} %formula %proof"))()
+            lambda: f"{self.hostile_program(self.hostile_body())} %formula %proof"))
+        return make()
 
     def option(self, name: str) -> List[str]:
         if not OPTIONS[name].has_value:
@@ -476,13 +485,13 @@ class Attack:
                      if one.name != "the front's files are written, all but two"]
             one = self.numbers.choice(known)
             self.may_leave = True
-            return f"signal.alarm(3)\n{one.body}"
+            return "signal.alarm(3)\n" + one.body.removeprefix(COMMON)
         steps = [self.step() for _ in range(self.numbers.randint(1, 12))]
         alarm = f"signal.alarm({self.choice(1, 1, 2)})\n" if self.chance(0.95) else ""
         end = self.choice("", "", f"os._exit({self.choice(0, 1, 10, 20, 127)})", "os.abort()",
                           "time.sleep(100)", "while True: say('c x')")
         lines = [f"try:\n    {step}\nexcept Exception: pass" for step in steps]
-        return f"{HELPERS}{alarm}" + "\n".join([*lines, str(end)])
+        return alarm + "\n".join([*lines, str(end)])
 
     def signs(self) -> str:
         """Of a model, which may be right."""

@@ -10,7 +10,7 @@ from typing import Callable, Iterator, List, NamedTuple
 
 import pytest
 
-PROCESSES, MEMORY = 300, 8 << 30
+PROCESSES, MEMORY = 300, 4 << 30
 GROUPS = Path("/sys/fs/cgroup")
 numbers = itertools.count()
 

@@ -39,7 +39,8 @@ def model_of(variables: int, clauses: Clauses, assumed: Sequence[int] = ()) -> O
 def refutation(variables: int, clauses: Clauses, assumed: Sequence[int] = ()) -> Optional[str]:
     """A stream that derives the empty clause, or one that contradicts the assumptions, by
     resolution; None if an assignment satisfies both."""
-    known: Dict[int, FrozenSet[int]] = dict(enumerate(map(frozenset, clauses), 1))
+    known: Dict[int, FrozenSet[int]] = {
+        number: frozenset(clause) for number, clause in enumerate(clauses, 1)}
     lines: List[str] = []
 
     def add(literals: FrozenSet[int], *hints: int) -> int:
