@@ -1,5 +1,6 @@
-"""What lrup-solve reads and keeps, depending on its arguments: inputs by path and by pipe, records,
-assumptions, refusals."""
+"""What lrup-solve reads and keeps, depending on its arguments: formulas by path and by pipe,
+assumptions, records and their folders. Then come arguments, formulas and assumptions that are
+refused: messages on texts have lrupd's words, and say more."""
 import os
 import re
 import shlex
@@ -8,486 +9,852 @@ import signal
 import subprocess
 import time
 from pathlib import Path
-from typing import Dict, List, Optional, Sequence, Tuple, Union
+from typing import Any, Callable, Dict, Iterator, List, Mapping, NamedTuple, Sequence, Union
 
-from harness import (COMPRESSED, FILTER, FOUR, LIMIT, MODEL, PROGRAM, Ran, Row, compiled, dimacs,
-                     example, generated, in_shell, parametrized, piped, run, started, until, want,
+import pytest
+
+from harness import (COMPRESSED, FILTER, FOUR, LIMIT, MODEL, PROGRAM, SMALL_ROW, VERDICTS, Ran,
+                     compiled, example, generated, in_shell, named, piped, run, started, until,
                      written)
 from lrat import lrat_fault
 from proof_forms import read_formula
-from solving import (FOR_TESTS, SOLVE, Answer, before_lrupd, check_again, children_of, command,
-                     in_environment, in_place_of_lrupd, listed, marked, none_left, solve,
-                     want_answer)
+from solving import (SOLVE, Answer, before_lrupd, check_again, children_of, command,
+                     in_environment, in_place_of_lrupd, listed, none_left, solve, want_answer)
 
-CUBE = os.fsdecode(b"cube\xe9")
+pytestmark = pytest.mark.usefixtures("solve_for_tests")
 Text = Union[str, bytes]
+IN_ROUNDS = {"SAME_WORDS": 1, "SLICE": 40, "FIRST_WORDS": 20000}
+UNDER = "s UNSATISFIABLE UNDER ASSUMPTIONS"
 
 
-# Keeping and reading.
+@pytest.fixture
+def kept(tmp_path: Path) -> Path:
+    """The folder of a record, which isn't there yet."""
+    return tmp_path / "kept"
 
 
-def keeps(words: List[str], work: Path) -> None:
-    kept, formula = work / "what's kept", shutil.copy(example("bmc.cnf"), work / "a formula")
-    want_answer(solve([*words, "--proofs", kept, formula]), 20)
-    check_again(kept)
+def content(folder: Path) -> Dict[str, bytes]:
+    return {path.name: path.read_bytes() for path in folder.iterdir()}
 
 
-def keeps_lrat(words: str, work: Path) -> None:
-    """The stream of a single engine, in one round, is LRAT for any LRAT checker."""
-    kept, formula = work / "kept", generated(words, work)
-    want_answer(solve(["-j", "1", "--memory", "256M", "--proofs", kept, formula],
-                      tested={"FIRST_WORDS": 1 << 24}), 20)
-    want(sorted(os.listdir(kept)), ["about", "command", "files", "formula.sha256", "report",
-                                    "round-1.sizes", "round-1.stream-1"],
-         "the kept files")
-    want(lrat_fault(read_formula(formula), (kept / "round-1.stream-1").read_text()), "", "as LRAT")
+def want_refused(words: Sequence[object], said: str, **how: Any) -> None:
+    """The run is refused, with one line on standard error, which says this."""
+    answer = solve(words, limit=60, **how)
+    assert (answer.out, answer.status) == ("", 1)
+    assert re.fullmatch(r"lrup-solve: .*\n", answer.said)
+    assert said in answer.said
 
 
-def keeps_standard_input(work: Path) -> None:
-    """The record has a copy of an input from a pipe."""
-    want_answer(solve(["--proofs", work / "kept"], given=example("bmc.cnf").read_text()), 20)
-    check_again(work / "kept")
+# Where the formula is.
 
 
-def keeps_not_utf8(words: List[str], tested: Dict[str, object], work: Path) -> None:
-    """Names that aren't UTF-8, which lrupd would refuse: those of the formula, the assumptions, the
-    record and the current folder."""
-    folder = work / os.fsdecode(b"\xff \xed\xa0\x80")
-    formula = written(example("bmc.cnf").read_text(), folder, os.fsdecode(b"formula\xc0\x80"))
-    written("0\n", folder, CUBE)
-    want_answer(solve(["-v", "-j", "2", *words, formula.name], cwd=folder, tested=tested,
-                      env_more={"TMPDIR": str(folder)}), 20)
-    if "--proofs" in words:
-        check_again(folder / words[-1])
-    want(list(folder.glob("lrup-solve-*")), [], "folders of rounds that are left")
+as_standard_input = pytest.mark.parametrize("words", [[], ["-"]], ids=["no name", "-"])
 
 
-def keeps_by_short_names(work: Path) -> None:
-    """The command works in any folder, even if formula, checker and record were named relative to
-    another folder."""
-    written("0\n", work, "cube")
-    os.symlink(PROGRAM, work / "lrupd")
-    shutil.copy(example("bmc.cnf"), work / "formula.cnf")
-    done = run([SOLVE, "--lrupd", "./lrupd", "--proofs", "a record", "--assume", "cube",
-                "formula.cnf"], cwd=work)
-    want((done.err, done.status), ("", 20), "the run")
-    check_again(work / "a record")
-
-
-def writes_over(words: List[str], work: Path) -> None:
-    """In the record's folder, no input is overwritten, whatever its name."""
-    text, kept = example("bmc.cnf").read_text(), work / "kept"
-    path, cube = written(text, kept, words[0]), written("0\n", kept, "assumptions")
-    os.symlink(path, work / "link")
-    os.link(path, work / "other")
-    with open(path) as file:
-        out, said, status = run([SOLVE, "--lrupd", PROGRAM, "--proofs", kept,
-                                 *(word.format(path=path, work=work, cube=cube)
-                                   for word in words[1:])], stdin=file)
-    over = " would be overwritten: choose another --proofs\n"
-    want((out, said.count("\n"), said.endswith(over), status), ("", 1, True, 1),
-         f"the message: {said}")
-    want((path.read_text(), cube.read_text(), sorted(os.listdir(kept))),
-         (text, "0\n", sorted({path.name, "assumptions"})), "the files' contents")
-
-
-def links_in_a_record(work: Path) -> None:
-    """Listed links with a stream's name are removed, and their targets stay."""
-    kept, targets = work / "kept", [written("text", work, name) for name in ("one", "two", "three")]
-    written("files\nround-1.stream-1\nreport\n.report.new\nround-1.stream-2\n", kept, "files")
-    for target, name in zip(targets, ("round-1.stream-1", "report", ".report.new")):
-        os.symlink(target, kept / name)
-    os.link(targets[1], kept / "round-1.stream-2")
-    want_answer(solve(["-j", "2", "--proofs", kept, example("bmc.cnf")]), 20)
-    want([target.read_text() for target in targets], ["text"] * 3, "the links' targets")
-    check_again(kept)
-
-
-def earlier_run(work: Path) -> None:
-    """A new run leaves nothing of the old record; its formula may come from that record, through a
-    pipe. What the record doesn't list isn't removed."""
-    kept = work / "kept"
-    rounds = [f"round-{k}.{name}" for k in (1, 2, 9, 10, 123)
-              for name in ("sizes", "stream-1", "stream-2", "stream-64")]
-    others = ["another", "round-0.sizes", "round-1.stream-", "round-1.stream-x", "round-2.cnf",
-              "round-2.cnf.old", "round.cnf", "stream1"]
-    names = ["files", "about", "report", "command", "formula.sha256", "formula.cnf", "assumptions",
-             ".round-9.sizes.new", *rounds, "round-7.sizes"]
-    for name in [*names[1:-1], *others]:
-        written("of an earlier run\n", kept, name)
-    # The run was killed in the middle of writing a name.
-    written("\n".join([*names, "round-1.str"]), kept, "files")
-    shutil.copy(example("bmc.cnf"), kept / "formula.cnf")
-    in_shell('cat "$2"/formula.cnf | "$0" --lrupd "$1" -j 2 --replace --proofs "$2" -',
-             SOLVE, PROGRAM, kept)
-    one = ["round-1.sizes", "round-1.stream-1"]
-    found = ["about", "command", "files", "formula.cnf", "formula.sha256", "report", *one,
-             "round-1.stream-2"]
-    want(sorted(os.listdir(kept)), sorted([*others, *found]), "the files")
-    want([name for name in listed(kept) if name[0] != "."], found, "the listed files")
-    want((kept / "formula.cnf").read_text(), example("bmc.cnf").read_text(), "the formula")
-    check_again(kept)
-    one_round = {"FIRST_WORDS": 1 << 24}      # no machine fills this row before the run ends
-    with started(command(["-j", "1", "--replace", "--proofs", kept, generated("pigeons 11", work)],
-                         one_round),
-                 env=in_environment(one_round), stdout=subprocess.PIPE, text=True) as running:
-        until("lrupd is there",
-              lambda: "lrupd" in children_of(running.pid) or running.poll() is not None)
-        running.terminate()
-        out = running.communicate(timeout=LIMIT)[0]
-    want((out.splitlines()[-1], running.returncode), ("s UNKNOWN", -signal.SIGTERM),
-         "the answer of a run that was ended")
-    saved = ["checkpoint-2.cnf", "rounds.sha256"]
-    want(sorted(os.listdir(kept)), sorted([*others, "files", "formula.sha256", *one, *saved]),
-         "the files after 's UNKNOWN'")
-    want([path.read_text() for path in map(kept.joinpath, others)],
-         ["of an earlier run\n"] * len(others), "the other files' contents")
-
-
-def others_write(mode: int, taken: bool, work: Path) -> None:
-    """If other users may remove files, they may replace a stream; if the folder is sticky, they
-    can't."""
-    kept = work / "kept"
-    kept.mkdir()
-    kept.chmod(mode)
-    words = ["-j", "1", "--proofs", kept, example("bmc.cnf")]
-    if not taken:
-        return refused(words, f"{kept}: others may write there: choose another --proofs", work)
-    want_answer(solve(words), 20)
-    check_again(kept)
-
-
-def made_where_all_may_write(work: Path) -> None:
-    in_shell('umask 0; exec "$@"', "sh", SOLVE, "--lrupd", PROGRAM, "-j", "1", "--proofs",
-             work / "kept", example("bmc.cnf"))
-    want((work / "kept").stat().st_mode & 0o7777, 0o775, "the mode of the folder that is made")
-    check_again(work / "kept")
-
-
-def locked(name: str, ends: int, work: Path) -> None:
-    """A run locks its folder until it ends, however it ends. A second run is refused at once, and
-    touches nothing."""
-    kept, words, mark = (work / "kept",
-                         ["--proofs", work / name, "-j", "1", example("bmc.cnf")], marked(work))
-    os.symlink("kept", work / "link")
-    with started(command(["-j", "1", "--proofs", kept, generated("pigeons 11", work)]),
-                 stdout=subprocess.DEVNULL) as running:
-        until("lrupd's sizes are there",
-              lambda: (kept / "round-1.sizes").exists() or running.poll() is not None)
-        before = sorted(os.listdir(kept))
-        refused(words, f"{work / name}: another run has its files there, and hasn't ended: choose "
-                       "another --proofs", work)
-        want((sorted(os.listdir(kept)), running.poll()), (before, None),
-             "the files, and the run's status")
-        running.send_signal(ends)
-        running.wait(LIMIT)
-        none_left(mark)
-        want(set(before) <= set(listed(kept)), True, f"whether all of {before} is listed")
-        want_answer(solve(["--replace", *words]), 20)   # the first run may have saved a round
-    check_again(kept)
-
-
-def own_files(name: str, work: Path) -> None:
-    """A file that has the name of a record's file, but isn't part of a record, is left alone. Every
-    run that has read its formula leaves a record."""
-    own = work / "own"
-    path, other = written("mine\n", own, name), written("mine\n", own, "round-5.cnf")
-    refused(["--proofs", own, example("bmc.cnf")],
-            f"{path} is there, but isn't from an earlier run: choose another --proofs", work)
-    want((path.read_text(), sorted(os.listdir(own))), ("mine\n", sorted([name, other.name])),
-         "the files' contents")
-    path.unlink()
-    want_answer(solve(["--proofs", own, example("bmc.cnf")]), 20)
-    want(other.read_text(), "mine\n", "the files' contents")
-    (own / "files").unlink()
-    said = solve(["--proofs", own, example("bmc.cnf")]).said
-    wanted = (
-        f"lrup-solve: {own}/about is there, but isn't from an earlier run: choose another "
-        "--proofs\n")
-    want(said, wanted, "the message on a record without a list")
-    check_again(own)
-    for text, status in ((FOUR, 20), ("x", 1), ("p cnf 1 0\n", 10),
-                         ("p cnf 1 1\n2 0\n", 1), (FOUR, 20)):
-        want(solve(["--replace", "--proofs", work / "kept", "-"], given=text).status, status,
-             f"the status with {text}")
-
-
-def own_list(text: Optional[str], work: Path) -> None:
-    """A list that isn't a record's, or is a link or a pipe, doesn't cause removals, and isn't
-    written to."""
-    own, target, mine = (work / "own", written("files\nreport\n", work, "target"),
-                         written("mine\n", work, "mine"))
-    report = written("mine\n", own, "report")
-    {"link": lambda: (own / "files").symlink_to(target),
-     "hard link": lambda: os.link(target, own / "files"), "pipe": lambda: os.mkfifo(
-         own / "files")}.get(str(text), lambda: written(str(text), own, "files"))()
-    answer = solve(["--proofs", own, example("bmc.cnf")], limit=60)
-    want((answer.out, answer.said, answer.status),
-         ("", f"lrup-solve: {own}/files is there, but isn't from an earlier run: choose "
-              "another --proofs\n", 1),
-         "the messages")
-    want([path.read_text() for path in (report, target, mine)],
-         ["mine\n", "files\nreport\n", "mine\n"], "the files' contents")
-    want(sorted(os.listdir(own)), ["files", "report"], "the files")
-
-
-def replaced(work: Path) -> None:
-    """A record with a proof stays unless --replace is given; without a proof, it is replaced."""
-    kept, words = work / "kept", ["-j", "1", "--proofs", work / "kept"]
-    said = (f"lrup-solve: {kept} has the proof of an earlier run: add --replace, or choose "
-            "another --proofs\n")
-    cube, under = (written("-2 0\n", work, "cube"),
-                   written("p cnf 2 2\n1 2 0\n-1 2 0\n", work, "under"))
-    sat = written("p cnf 1 1\n1 0\n", work, "sat")
-    for more, status in (((sat,), 10), ((example("bmc.cnf"),), 20),
-                         (("--assume", cube, under), 20), ((sat,), 10), ((sat,), 10)):
-        want(solve([*words, "--replace", *more]).status, status, "the status")
-        files = {path.name: path.read_bytes() for path in kept.iterdir()}
-        answer = solve([*words, example("four-clause.cnf")])
-        if status == 10:
-            want_answer(answer, 20)
-        else:
-            want((answer.out, answer.said, answer.status), ("", said, 1),
-                 "the message on a record with a proof")
-            want({path.name: path.read_bytes() for path in kept.iterdir()}, files, "the record")
-    other = written(b"", kept, "round-9.stream-1.xz")
-    answer = solve([*words, "--replace", sat])
-    own = f"lrup-solve: {other} is there, but isn't from an earlier run: choose another --proofs\n"
-    want((answer.out, answer.said, answer.status), ("", own, 1),
-         "the message on another compressed stream")
-    other.unlink()
-    stream = (kept / "round-1.stream-1").rename(kept / "round-1.stream-1.xz")
-    want((solve([*words, "--replace", sat]).status, stream.exists()), (10, False),
-         "the answer with a compressed stream, and whether that is left")
-
-
-LISTS = ["link", "hard link", "pipe", "", "\n", "files", "report\n", "files\n../mine\n",
-         "files\n\nreport\n", "files\nround-1.cnf\n", "files\nmine\n", "files\nround-1.stream-0\n",
-         "files\n.new\n", "files\nreport\0\n", "files\nfiles/../report\n"]
-
-
-def formula_of_a_round(work: Path) -> None:
-    """The formula is in the record's folder, under a name that lrupd gives to saved rounds."""
-    kept = work / "kept"
-    formula = written(generated("random 180 3", work).read_bytes(), kept, "round-1.cnf")
-    words, text = ["-j", "2", "--replace", "--proofs", kept, formula], formula.read_text()
-    for _ in range(2):
-        want_answer(solve(words, tested={"SAME_WORDS": 1, "SLICE": 40, "FIRST_WORDS": 20000}), 20)
-        want(len(list(kept.glob("round-*.sizes"))) > 1, True, "whether there are several rounds")
-        check_again(kept)
-        want(formula.read_text(), text, "the formula")
-
-
-def unkept(work: Path) -> None:
-    """The report can't be kept: the answer is still printed, and the status is the answer's."""
-    kept = work / "kept"
-    path = before_lrupd(f"mkdir {kept}/report", work)
-    answer = solve(["--lrupd", path, "--proofs", kept, example("bmc.cnf")])
-    want((answer.answers, answer.status, answer.said), (["s UNSATISFIABLE"], 20,
-         f"lrup-solve: cannot write {kept}/report: File exists\n"), "the answer")
-    found = [name for name in os.listdir(kept) if not name.startswith("round-1.")]
-    want(sorted(found), ["files", "formula.sha256", "report"], "the files")
-
-
-def another_name(words: List[str], work: Path) -> None:
-    """Standard input, and other files of the process, are given by names that lrupd couldn't
-    open."""
-    formula = example("bmc.cnf")
-    os.symlink("/dev/stdin", work / "link")
-    for how in ('"$@" < "$formula"', 'cat "$formula" | "$@"', '"$@" 5< "$formula" < "$formula"'):
-        done = in_shell(how, "sh", SOLVE, "--lrupd", PROGRAM,
-                        *(word.format(work=work) for word in words),
-                        env={**os.environ, "formula": str(formula)})
-        if "/dev/fd/5" not in words or "5<" in how:
-            want_answer(Answer(done), 20)
-
-
-def name_with_an_end_of_line(work: Path) -> None:
-    kept, formula = work / "a\nrecord", written("p cnf 1 2\n1 0\n-1 0\n", work, "a\nformula")
-    answer = solve(["-v", "-j", "1", "--proofs", kept, formula])
-    want_answer(answer, 20)
-    want([line for line in answer.out.splitlines() if line[:2] not in ("c ", "s ")], [],
-         "lines that are neither")
-    want(sum("1 clause checked" in line for line in answer.comments), 1,
-         f"clauses in\n{answer.out}")
-    check_again(kept)
-
-
-def standard_input(words: List[str], work: Path) -> None:
+@as_standard_input
+def test_standard_input_is_a_pipe(words: List[str]) -> None:
     want_answer(solve(words, given=example("bmc.cnf").read_text()), 20)
+
+
+@as_standard_input
+def test_standard_input_is_a_file(words: List[str]) -> None:
     with open(example("bmc.cnf")) as file:
         want_answer(solve(words, stdin=file), 20)
 
 
-def from_fifo(work: Path) -> None:
-    fifo = piped(work / "fifo")
+def solve_in_shell(how: str, words: Sequence[object], cwd: Path) -> Answer:
+    """A shell opens $formula, and starts lrup-solve as "$@"."""
+    return Answer(in_shell(how, "sh", *command(words), cwd=cwd,
+                           env={**os.environ, "formula": str(example("bmc.cnf"))}))
+
+
+@pytest.mark.parametrize("how", named([("a file", '"$@" < "$formula"'),
+                                       ("a pipe", 'cat "$formula" | "$@"')]))
+@pytest.mark.parametrize("words", [["/dev/stdin"], ["/proc/self/fd/0"], ["link"], ["--", "-"],
+                                   ["--proofs", "kept", "/dev/stdin"]], ids=" ".join)
+def test_other_names_of_standard_input(words: List[str], how: str, tmp_path: Path) -> None:
+    """lrupd couldn't open standard input by such a name."""
+    (tmp_path / "link").symlink_to("/dev/stdin")
+    want_answer(solve_in_shell(how, words, tmp_path), 20)
+
+
+def test_another_open_file(tmp_path: Path) -> None:
+    how = '"$@" 5< "$formula" < "$formula"'
+    want_answer(solve_in_shell(how, ["/dev/fd/5"], tmp_path), 20)
+
+
+def test_a_fifo(tmp_path: Path) -> None:
+    fifo = piped(tmp_path / "fifo")
     with started(["cp", example("bmc.cnf"), fifo]):
         want_answer(solve([fifo]), 20)
 
 
-def beside(name: str, program: str, work: Path) -> None:
-    """lrupd and lrup-model are looked for in the program's folder, then on the PATH."""
-    for folder in ("one", "two"):
+# Where programs are, and what is printed.
+
+
+each_program = pytest.mark.parametrize("name", ["lrupd", "lrup-model"])
+
+
+def solve_with(name: str, place: str, work: Path) -> Ran:
+    """Runs lrup-solve in the folder `beside`, which has the other programs, too. The program with
+    this name is in the folder `place`, and the PATH is `path`."""
+    for folder in ("beside", "path", "elsewhere"):
         (work / folder).mkdir()
-    for other, path in (("lrupd", PROGRAM), ("lrup-model", MODEL)):
-        if other != name:
-            os.symlink(path, work / "one" / other)
-    shutil.copy(SOLVE.with_name("lrup-engines"), work / "one")
-    words: List[object] = [shutil.copy(SOLVE, work / "one"), example("four-clause.cnf")]
-    where = {**os.environ, "PATH": str(work / "two")}
-    want(run(words, env=where),
-         Ran("", f"lrup-solve: no {name} that can be run: none beside lrup-solve or on PATH\n", 1),
-         f"without {name}")
-    for folder in ("two", "one"):
-        os.symlink(program, work / folder / name)
-        done = run(words, env=where)
-        want((done.out.splitlines()[-1:], done.status), (["s UNSATISFIABLE"], 20),
-             f"with {name} in {folder}")
-        (work / folder / name).unlink()
+    for own in (SOLVE, SOLVE.with_name("lrup-engines")):
+        shutil.copy(own, work / "beside")
+    for other, program in (("lrupd", PROGRAM), ("lrup-model", MODEL)):
+        (work / (place if other == name else "beside") / other).symlink_to(program)
+    return run([work / "beside" / SOLVE.name, example("four-clause.cnf")],
+               env={**os.environ, "PATH": str(work / "path")})
 
 
-def assuming(text: str, literals: str, status: int, verdict: Optional[str], work: Path) -> None:
-    formula, cube = written(text, work), written(literals, work, "cube")
-    for engines in ("1", "3"):
-        answer = solve(["-j", engines, "--assume", cube, formula])
-        want_answer(answer, status, formula, verdict)
-        assert status != 10 or set(map(int, literals.split())) <= set(answer.values), (
-            "the assignment isn't one under the assumptions")
+@each_program
+@pytest.mark.parametrize("place", ["beside", "path"])
+def test_where_a_program_is_found(name: str, place: str, tmp_path: Path) -> None:
+    done = solve_with(name, place, tmp_path)
+    assert (done.err, done.status) == ("", 20)
+    assert done.out.splitlines()[-1] == "s UNSATISFIABLE"
 
 
-def contradicting(work: Path) -> None:
-    formula, cube = written("p cnf 3 2\n1 2 0\n-1 2 0\n", work), written("3 1 -1 0\n", work, "cube")
-    answer = solve(["-j", "2", "--assume", cube, formula])
+@each_program
+def test_a_program_that_is_not_found(name: str, tmp_path: Path) -> None:
+    said = f"lrup-solve: no {name} that can be run: none beside lrup-solve or on PATH\n"
+    assert solve_with(name, "elsewhere", tmp_path) == Ran("", said, 1)
+
+
+@pytest.mark.parametrize("words", [["-q"], ["--quiet"], ["-qv"], ["-vq"], ["-v", "-q"],
+                                   ["--quiet", "--verbose"]], ids=" ".join)
+def test_quiet(words: List[str]) -> None:
+    """Only the answer is printed, even with -v."""
+    assert solve([*words, example("bmc.cnf")]).out == "s UNSATISFIABLE\n"
+
+
+@pytest.mark.parametrize("word", ["-v", "-vv", "--verbose"])
+def test_verbose(word: str) -> None:
+    answer = solve([word, example("bmc.cnf")])
+    want_answer(answer, 20)
+    assert any(line.startswith("engine 1: ") for line in answer.comments), answer.out
+
+
+# Assumptions.
+
+
+# The formula implies 2, and not 1.
+IMPLIES_2 = "p cnf 3 3\n1 2 0\n-1 2 0\n3 -3 0\n"
+each_number_of_engines = pytest.mark.parametrize("engines", [1, 3])
+
+
+def solve_assuming(literals: str, formula: Path, engines: int) -> Answer:
+    cube = written(literals, formula.parent, "cube")
+    return solve(["-j", engines, "--assume", cube, formula])
+
+
+@each_number_of_engines
+@pytest.mark.parametrize("text, literals", named([
+    ("one", IMPLIES_2, "-2 0\n"), ("one of three", IMPLIES_2, "3 1 -2 0\n"),
+    ("against a unit clause", "p cnf 1 1\n1 0\n", "-1 0\n")]))
+def test_assumptions_that_contradict_the_formula(text: str, literals: str, engines: int,
+                                                 tmp_path: Path) -> None:
+    answer = solve_assuming(literals, written(text, tmp_path), engines)
+    want_answer(answer, 20, verdict=UNDER)
+
+
+@each_number_of_engines
+@pytest.mark.parametrize("literals", ["2 -1 0\n", "0\n"])
+def test_assumptions_that_fit(literals: str, engines: int, tmp_path: Path) -> None:
+    formula = written(IMPLIES_2, tmp_path)
+    answer = solve_assuming(literals, formula, engines)
+    want_answer(answer, 10, formula)
+    assert set(map(int, literals.split())) <= set(answer.values)
+
+
+@each_number_of_engines
+def test_assumptions_without_need_of_them(engines: int, tmp_path: Path) -> None:
+    formula = written(FOUR.replace("cnf 2", "cnf 3"), tmp_path)
+    want_answer(solve_assuming("3 0\n", formula, engines), 20)
+
+
+def test_assumptions_that_contradict_each_other(tmp_path: Path) -> None:
+    answer = solve_assuming("3 1 -1 0\n", written(IMPLIES_2, tmp_path), 2)
     want_answer(answer, 0)
-    want(answer.comments[:-1],
-         ["assumptions 1 and -1 contradict each other, which no proof can show"], "the messages")
+    said = "assumptions 1 and -1 contradict each other, which no proof can show"
+    assert answer.comments[:-1] == [said]
 
 
-def control_bytes(what: bytes, shown: str, work: Path) -> None:
-    """No control byte of a file or a name reaches a terminal. Letters beyond ASCII appear on
-    standard error, but not in comments."""
-    name = os.fsdecode(b"a" + what)
-    cube = written(b"1" + what + b" 0\n", work, "cube")
-    said = [solve(["--assume", cube, written(FOUR, work)]).said, solve([name], cwd=work).said]
-    wanted = [f": not a number: 1{shown})\n", f"a{shown}': No such file or directory\n"]
-    want([text[-len(end):] for text, end in zip(said, wanted)], wanted, "the messages")
-    answer = solve(["-v", "-j", "1", written(FOUR, work, name).name], cwd=work)
-    in_ascii = re.sub(rb"[^ -~]", b"?", os.fsencode(shown)).decode()
-    want(f"a{in_ascii}" in answer.out, True, f"whether the name is shown in\n{answer.out}")
+# Records.
 
 
-def quiet(work: Path) -> None:
-    """-q prints only the answer, even with -v."""
-    for words in (["-q"], ["--quiet"], ["-qv"], ["-vq"], ["-v", "-q"], ["--quiet", "--verbose"]):
-        want(solve([*words, example("bmc.cnf")]).out, "s UNSATISFIABLE\n",
-             f"the answer after {words}")
+@pytest.mark.parametrize("options", [[], ["-j", "4"]], ids=["usual options", "four engines"])
+def test_a_record_is_checked_again(options: List[str], tmp_path: Path) -> None:
+    kept, formula = tmp_path / "what's kept", tmp_path / "a formula"
+    shutil.copy(example("bmc.cnf"), formula)
+    want_answer(solve([*options, "--proofs", kept, formula]), 20)
+    check_again(kept)
 
 
-def verbose(work: Path) -> None:
-    for word in ("-v", "-vv", "--verbose"):
-        answer = solve([word, example("bmc.cnf")])
-        want_answer(answer, 20)
-        want(any(line.startswith("engine 1: ") for line in answer.comments), True,
-             f"whether {word} shows an engine\n{answer.out}")
+@pytest.mark.parametrize("words", ["pigeons 7", "random 150 1"])
+def test_the_stream_of_one_engine_is_lrat(words: str, kept: Path, tmp_path: Path) -> None:
+    """If there is one round, the stream is LRAT for any LRAT checker."""
+    formula = generated(words, tmp_path)
+    want_answer(solve(["-j", "1", "--memory", "256M", "--proofs", kept, formula],
+                      tested={"FIRST_WORDS": 1 << 24}), 20)
+    assert sorted(os.listdir(kept)) == ["about", "command", "files", "formula.sha256", "report",
+                                        "round-1.sizes", "round-1.stream-1"]
+    assert lrat_fault(read_formula(formula), (kept / "round-1.stream-1").read_text()) == ""
 
 
-# Refusals.
+def test_a_record_has_a_copy_of_standard_input(kept: Path) -> None:
+    text = example("bmc.cnf").read_text()
+    want_answer(solve(["--proofs", kept], given=text), 20)
+    assert (kept / "formula.cnf").read_text() == text
+    check_again(kept)
 
 
-def refused(words: Sequence[object], cause: str, work: Path) -> None:
-    """There is one line on standard error, and status 1."""
-    formula = written(FOUR, work)
-    for name, begins in COMPRESSED.items():
-        written(begins, work, name)
-    answer = solve([str(word).format(work=work, formula=formula) for word in words])
-    want((answer.out, answer.status, answer.said.count("\n"),
-          answer.said.startswith("lrup-solve: ")),
-         ("", 1, 1, True), f"the message on {words}: {answer.said}")
-    cause = cause.format(work=work)
-    assert cause in answer.said, f"expected a message on '{cause}', but found\n{answer.said}"
+def test_names_relative_to_another_folder(tmp_path: Path) -> None:
+    """The record's command works in any folder, even if formula, checker and record were named
+    relative to another one."""
+    written("0\n", tmp_path, "cube")
+    (tmp_path / "lrupd").symlink_to(PROGRAM)
+    shutil.copy(example("bmc.cnf"), tmp_path / "formula.cnf")
+    done = run([SOLVE, "--lrupd", "./lrupd", "--proofs", "a record", "--assume", "cube",
+                "formula.cnf"], cwd=tmp_path)
+    assert (done.err, done.status) == ("", 20)
+    check_again(tmp_path / "a record")
 
 
-def refused_by_lrupd(text: Text, words: List[str], known: str, work: Path) -> None:
-    """Whether an input is a file or comes from a pipe, the message has lrupd's words, with the
-    input's name and details."""
-    formula = written(text, work, "a formula")
-    words = [word.format(work=work) for word in words]
-    for name, literals in (("bad", "-2 x 0\n"), ("beyond", "-7 0\n"), ("spaces", "1  2 0\n"),
-                           ("open", "1 2\n"), ("crlf", "1 2 0\r\n"), ("noend", "1 2 0"),
-                           ("two", "1 0\n2 0\n"), ("blank", "1 2 0 \n"), ("tab", "1\t2 0\n"),
-                           ("least", f"-{1 << 63} 0\n"), ("less", f"-{(1 << 64) + 1} 0\n"),
-                           ("long", "1" * 100 + " 0\n")):
-        written(literals, work, name)
-    said = run([PROGRAM, *words, formula, "/dev/null"]).err.rstrip("\n")
-    want((said[:7], said.count("\n")), ("lrupd: ", 0), "lrupd's refusal")
-    for given, name in ((None, f"'{formula}'"), (text, "standard input")):
-        answer = solve([*words, "-" if given else formula], given=given)
-        message = f"{said} ({known.format(name=name, work=work)})\n"
-        if given is None or given:
-            want((answer.out, answer.said, answer.status), ("", message, 1), "the messages")
+@pytest.mark.parametrize("tested", named([
+    ("one round", {"SLICE": 50}),
+    ("rounds", {"SLICE": 50, "FIRST_WORDS": 4000, "SAME_WORDS": 1})]))
+@pytest.mark.parametrize("assumed", named([("no assumptions", b""), ("assumptions", b"cube\xe9")]))
+@pytest.mark.parametrize("record", named([("no record", b""), ("a record", b"kept"),
+                                          ("a record's name, too", b"kept\xff")]))
+def test_names_that_are_not_utf8(assumed: bytes, record: bytes, tested: Mapping[str, object],
+                                 tmp_path: Path) -> None:
+    """Names of the formula, the assumptions, the record and the current folder, which lrupd would
+    refuse."""
+    folder = tmp_path / os.fsdecode(b"\xff \xed\xa0\x80")
+    formula = written(example("bmc.cnf").read_text(), folder, os.fsdecode(b"formula\xc0\x80"))
+    words: List[object] = ["-v", "-j", "2"]
+    if assumed:
+        words += ["--assume", written("0\n", folder, os.fsdecode(assumed)).name]
+    if record:
+        words += ["--proofs", os.fsdecode(record)]
+    answer = solve([*words, formula.name], cwd=folder, tested=tested,
+                   env_more={"TMPDIR": str(folder)})
+    want_answer(answer, 20)
+    assert list(folder.glob("lrup-solve-*")) == []
+    if record:
+        check_again(folder / os.fsdecode(record))
 
 
-def refused_by_all(text: Text, fault: str, line: int, known: str, work: Path) -> None:
-    """A formula that lrupd refuses is refused by the filter and lrup-solve, with more details."""
-    formula = written(text, work, "a formula")
-    want(run([PROGRAM, formula, "/dev/null"]), Ran("", f"lrupd: formula refused: {fault}\n", 4),
-         "lrupd's answer")
-    said = f"lrup-exact: {formula}, line {line}: {known}\n"
-    want(run([FILTER, "--format", "drat", formula, "/dev/null"]), Ran("", said, 1), "the filter's")
-    refused_by_lrupd(text, [], f"{{name}}, line {line}: {known}", work)
+def test_a_formula_whose_name_is_of_a_saved_round(kept: Path, tmp_path: Path) -> None:
+    """In the record's folder the formula has a name that lrupd gives to the clauses of a round. A
+    run with several rounds leaves it alone, and so does a run that replaces the record."""
+    formula = written(generated("random 180 3", tmp_path).read_bytes(), kept, "round-1.cnf")
+    text = formula.read_text()
+    for _ in range(2):
+        want_answer(solve(["-j", "2", "--replace", "--proofs", kept, formula], tested=IN_ROUNDS),
+                    20)
+        assert len(list(kept.glob("round-*.sizes"))) > 1
+        check_again(kept)
+        assert formula.read_text() == text
 
 
-def taken_by_all(text: Text, status: int, work: Path) -> None:
-    """If the formula is unsatisfiable, the filter finds the empty clause by unit propagation."""
-    formula = written(text, work, "a formula")
-    stream, said, ended = run([FILTER, "--format", "drat", formula], "0\n" if status == 20 else "")
-    want((stream.count("\n"), said, ended), (int(status == 20), "", 0), "the filter's messages")
-    wanted, verdict = (0, "s UNSATISFIABLE") if status == 20 else (3, "s UNKNOWN")
-    done = run([PROGRAM, "--lines", "1000", "--room", "10000", formula,
-                written(stream, work, "stream")])
-    want((done.out.splitlines()[-1:], done.err, done.status), ([verdict], "", wanted),
-         "lrupd's answer")
+def test_a_report_that_cannot_be_kept(kept: Path, tmp_path: Path) -> None:
+    """The answer is still printed, and the status is the answer's."""
+    lrupd = before_lrupd(f"mkdir {kept}/report", tmp_path)
+    answer = solve(["--lrupd", lrupd, "--proofs", kept, example("bmc.cnf")])
+    assert (answer.answers, answer.status) == (["s UNSATISFIABLE"], 20)
+    assert answer.said == f"lrup-solve: cannot write {kept}/report: File exists\n"
+    found = [name for name in os.listdir(kept) if not name.startswith("round-1.")]
+    assert sorted(found) == ["files", "formula.sha256", "report"]
+
+
+# Folders of records.
+
+
+@pytest.mark.parametrize("mode", [0o777, 0o757], ids="{:o}".format)
+def test_a_folder_where_others_may_write(mode: int, kept: Path) -> None:
+    """They may remove files, and so may replace a stream."""
+    kept.mkdir()
+    kept.chmod(mode)
+    want_refused(["-j", "1", "--proofs", kept, example("bmc.cnf")],
+                 f"{kept}: others may write there: choose another --proofs")
+
+
+@pytest.mark.parametrize("mode", [0o1777, 0o775, 0o700], ids="{:o}".format)
+def test_a_folder_where_others_may_remove_nothing(mode: int, kept: Path) -> None:
+    kept.mkdir()
+    kept.chmod(mode)
+    want_answer(solve(["-j", "1", "--proofs", kept, example("bmc.cnf")]), 20)
+    check_again(kept)
+
+
+def test_mode_of_a_folder_that_is_made(kept: Path) -> None:
+    words = command(["-j", "1", "--proofs", kept, example("bmc.cnf")])
+    assert in_shell('umask 0; exec "$@"', "sh", *words).status == 20
+    assert f"{kept.stat().st_mode & 0o7777:o}" == "775"
+    check_again(kept)
+
+
+@pytest.mark.parametrize("name, words", [
+    ("formula.cnf", ""), ("formula.cnf", "kept/formula.cnf"),
+    ("round-1.stream-1", "kept/round-1.stream-1"),
+    ("round-12.stream-64", "kept/round-12.stream-64"), ("round-3.sizes", "kept/round-3.sizes"),
+    ("report", "link"), ("command", "other"), ("round-1.stream-2", "/dev/stdin"),
+    ("x", "--assume kept/assumptions kept/x")])
+def test_an_input_is_not_overwritten(name: str, words: str, kept: Path, tmp_path: Path) -> None:
+    """It is in the record's folder, and has the name of a record's file. Standard input is the same
+    file."""
+    path = written(example("bmc.cnf").read_text(), kept, name)
+    written("0\n", kept, "assumptions")
+    (tmp_path / "link").symlink_to(path)
+    os.link(path, tmp_path / "other")
+    before = content(kept)
+    with open(path) as file:
+        want_refused(["--proofs", "kept", *words.split()],
+                     " would be overwritten: choose another --proofs\n", cwd=tmp_path, stdin=file)
+    assert content(kept) == before
+
+
+def test_links_in_a_record(kept: Path, tmp_path: Path) -> None:
+    """Links that the record lists are removed, and their targets stay."""
+    targets = [written("text", tmp_path, name) for name in ("one", "two", "three")]
+    written("files\nround-1.stream-1\nreport\n.report.new\nround-1.stream-2\n", kept, "files")
+    for target, name in zip(targets, ("round-1.stream-1", "report", ".report.new")):
+        (kept / name).symlink_to(target)
+    os.link(targets[1], kept / "round-1.stream-2")
+    want_answer(solve(["-j", "2", "--proofs", kept, example("bmc.cnf")]), 20)
+    assert [target.read_text() for target in targets] == ["text"] * 3
+    check_again(kept)
+
+
+@pytest.mark.parametrize("name, ends", named([
+    ("Terminated", "kept", signal.SIGTERM), ("Killed, named by a link", "link", signal.SIGKILL)]))
+def test_the_folder_of_another_run(name: str, ends: signal.Signals, kept: Path, mark: str,
+                                   tmp_path: Path) -> None:
+    """A run locks its folder until it ends, however it ends. A second run is refused at once, and
+    touches nothing."""
+    words = ["-j", "1", "--proofs", tmp_path / name, example("bmc.cnf")]
+    (tmp_path / "link").symlink_to("kept")
+    with started(command(["-j", "1", "--proofs", kept, generated("pigeons 11", tmp_path)]),
+                 stdout=subprocess.DEVNULL) as running:
+        until("lrupd's sizes are there",
+              lambda: (kept / "round-1.sizes").exists() or running.poll() is not None)
+        before = sorted(os.listdir(kept))
+        want_refused(words, f"{tmp_path / name}: another run has its files there, and hasn't ended:"
+                            " choose another --proofs")
+        assert running.poll() is None
+        assert sorted(os.listdir(kept)) == before
+        running.send_signal(ends)
+        running.wait(LIMIT)
+        none_left(mark)
+    assert set(before) - set(listed(kept)) == set()
+    want_answer(solve(["--replace", *words]), 20)       # the first run may have saved a round
+    check_again(kept)
+
+
+# A record's folder has such files, too, but no record lists them.
+OTHERS = ["another", "round-0.sizes", "round-1.stream-", "round-1.stream-x", "round-2.cnf",
+          "round-2.cnf.old", "round.cnf", "stream1"]
+
+
+def write_others(kept: Path) -> None:
+    for name in OTHERS:
+        written("of an earlier run\n", kept, name)
+
+
+def want_others(kept: Path) -> None:
+    """The files that no record lists are as they were."""
+    found = {name: (kept / name).read_text() for name in OTHERS if (kept / name).exists()}
+    assert found == dict.fromkeys(OTHERS, "of an earlier run\n")
+
+
+def test_an_earlier_record_is_removed(kept: Path) -> None:
+    """A new run leaves nothing of the old record; its formula may come from that record, through a
+    pipe. What the record doesn't list isn't removed."""
+    rounds = [f"round-{k}.{name}" for k in (1, 2, 9, 10, 123)
+              for name in ("sizes", "stream-1", "stream-2", "stream-64")]
+    names = ["about", "report", "command", "formula.sha256", "formula.cnf", "assumptions",
+             ".round-9.sizes.new", *rounds]
+    for name in names:
+        written("of an earlier run\n", kept, name)
+    write_others(kept)
+    # The run was killed in the middle of writing a name, and before round 7 was there.
+    written("\n".join(["files", *names, "round-7.sizes", "round-1.str"]), kept, "files")
+    shutil.copy(example("bmc.cnf"), kept / "formula.cnf")
+    done = in_shell('cat "$0"/formula.cnf | "$@"', kept,
+                    *command(["-j", 2, "--replace", "--proofs", kept, "-"]))
+    want_answer(Answer(done), 20)
+    found = ["about", "command", "files", "formula.cnf", "formula.sha256", "report",
+             "round-1.sizes", "round-1.stream-1", "round-1.stream-2"]
+    assert sorted(os.listdir(kept)) == sorted([*OTHERS, *found])
+    assert [name for name in listed(kept) if name[0] != "."] == found
+    assert (kept / "formula.cnf").read_text() == example("bmc.cnf").read_text()
+    want_others(kept)
+    check_again(kept)
+
+
+def test_a_run_without_an_answer_replaces_a_proof(kept: Path, tmp_path: Path) -> None:
+    """It is ended by a signal, and leaves nothing but what it has saved."""
+    write_others(kept)
+    want_answer(solve(["-j", 2, "--proofs", kept], given=example("bmc.cnf").read_text()), 20)
+    one_round = {"FIRST_WORDS": 1 << 24}      # no machine fills this row before the run ends
+    words = ["-j", 1, "--replace", "--proofs", kept, generated("pigeons 11", tmp_path)]
+    with started(command(words, one_round), env=in_environment(one_round), stdout=subprocess.PIPE,
+                 text=True) as running:
+        until("lrupd is there",
+              lambda: "lrupd" in children_of(running.pid) or running.poll() is not None)
+        running.terminate()
+        out = running.communicate(timeout=LIMIT)[0]
+    assert out.splitlines()[-1] == "s UNKNOWN"
+    assert running.returncode == -signal.SIGTERM
+    assert sorted(os.listdir(kept)) == sorted([
+        *OTHERS, "checkpoint-2.cnf", "files", "formula.sha256", "round-1.sizes", "round-1.stream-1",
+        "rounds.sha256"])
+    want_others(kept)
+
+
+@pytest.fixture
+def own(tmp_path: Path) -> Path:
+    """A folder of the user's, without a record."""
+    (tmp_path / "own").mkdir()
+    return tmp_path / "own"
+
+
+@pytest.mark.parametrize("name", [
+    "about", "formula.cnf", "formula.sha256", "assumptions", "report", "command", ".report.new",
+    "round-7.sizes", "round-2.stream-3"])
+def test_a_file_of_the_user(name: str, own: Path) -> None:
+    """A file that has the name of a record's file, but isn't part of a record, is left alone."""
+    path = written("mine\n", own, name)
+    want_refused(["--proofs", own, example("bmc.cnf")],
+                 f"{path} is there, but isn't from an earlier run: choose another --proofs\n")
+    assert content(own) == {name: b"mine\n"}
+
+
+def test_another_file_of_the_user(own: Path) -> None:
+    """It stays beside the record."""
+    mine = written("mine\n", own, "round-5.cnf")
+    want_answer(solve(["--proofs", own, example("bmc.cnf")]), 20)
+    assert mine.read_text() == "mine\n"
+    check_again(own)
+
+
+def test_a_record_without_its_list(kept: Path) -> None:
+    """It isn't removed."""
+    want_answer(solve(["--proofs", kept, example("bmc.cnf")]), 20)
+    (kept / "files").unlink()
+    want_refused(["--proofs", kept, example("bmc.cnf")],
+                 f"{kept}/about is there, but isn't from an earlier run: choose another --proofs\n")
+    check_again(kept)
+
+
+def test_each_run_leaves_a_record(kept: Path) -> None:
+    """The next run can replace what a run leaves, even one that has refused its formula."""
+    for text, status in ((FOUR, 20), ("x", 1), ("p cnf 1 0\n", 10), ("p cnf 1 1\n2 0\n", 1),
+                         (FOUR, 20)):
+        answer = solve(["--replace", "--proofs", kept, "-"], given=text)
+        assert answer.status == status, answer.said
+
+
+def want_list_refused(own: Path) -> None:
+    """The user's list isn't a record's, so nothing is removed."""
+    report = written("mine\n", own, "report")
+    want_refused(["--proofs", own, example("bmc.cnf")],
+                 f"{own}/files is there, but isn't from an earlier run: choose another --proofs\n")
+    assert report.read_text() == "mine\n"
+    assert sorted(os.listdir(own)) == ["files", "report"]
+
+
+@pytest.mark.parametrize("text", [
+    "", "\n", "files", "report\n", "files\n../mine\n", "files\n\nreport\n", "files\nround-1.cnf\n",
+    "files\nmine\n", "files\nround-1.stream-0\n", "files\n.new\n", "files\nreport\0\n",
+    "files\nfiles/../report\n"])
+def test_a_list_of_the_user(text: str, own: Path, tmp_path: Path) -> None:
+    path, mine = written(text, own, "files"), written("mine\n", tmp_path, "mine")
+    want_list_refused(own)
+    assert path.read_text() == text
+    assert mine.read_text() == "mine\n"
+
+
+@pytest.mark.parametrize("link", [os.symlink, os.link], ids=["link", "hard link"])
+def test_a_link_as_list(link: Callable[[Path, Path], None], own: Path, tmp_path: Path) -> None:
+    """Its target isn't written to."""
+    target = written("files\nreport\n", tmp_path, "target")
+    link(target, own / "files")
+    want_list_refused(own)
+    assert target.read_text() == "files\nreport\n"
+
+
+def test_a_fifo_as_list(own: Path) -> None:
+    os.mkfifo(own / "files")
+    want_list_refused(own)
+
+
+@pytest.mark.parametrize("assumes", [False, True], ids=["a proof", "under assumptions"])
+def test_a_proof_is_only_replaced_by_request(assumes: bool, kept: Path, tmp_path: Path) -> None:
+    formula = written("p cnf 2 2\n1 2 0\n-1 2 0\n", tmp_path)
+    cube = written("-2 0\n", tmp_path, "cube")
+    inputs = ["--assume", cube, formula] if assumes else [example("bmc.cnf")]
+    assert solve(["-j", "1", "--proofs", kept, *inputs]).status == 20
+    before, words = content(kept), ["-j", "1", "--proofs", kept, example("four-clause.cnf")]
+    want_refused(words, f"{kept} has the proof of an earlier run: add --replace, or choose another "
+                        "--proofs\n")
+    assert content(kept) == before
+    want_answer(solve(["--replace", *words]), 20)
+
+
+def test_a_record_without_a_proof_is_replaced(kept: Path, tmp_path: Path) -> None:
+    words = ["-j", "1", "--proofs", kept]
+    satisfiable = written("p cnf 1 1\n1 0\n", tmp_path)
+    want_answer(solve([*words, example("four-clause.cnf")]), 20)
+    want_answer(solve([*words, "--replace", satisfiable]), 10, satisfiable)
+    want_answer(solve([*words, satisfiable]), 10, satisfiable)
+    want_answer(solve([*words, example("four-clause.cnf")]), 20)
+
+
+def test_a_packed_stream_that_no_record_lists(kept: Path) -> None:
+    words = ["-j", "1", "--replace", "--proofs", kept, example("four-clause.cnf")]
+    want_answer(solve(words), 20)
+    other = written(b"", kept, "round-9.stream-1.xz")
+    want_refused(words,
+                 f"{other} is there, but isn't from an earlier run: choose another --proofs\n")
+    assert other.exists()
+
+
+def test_a_packed_stream_of_the_record_is_removed(kept: Path) -> None:
+    words = ["-j", "1", "--replace", "--proofs", kept, example("four-clause.cnf")]
+    want_answer(solve(words), 20)
+    stream = (kept / "round-1.stream-1").rename(kept / "round-1.stream-1.xz")
+    want_answer(solve(words), 20)
+    assert not stream.exists()
+
+
+# Names that aren't for a terminal.
+
+
+each_name = pytest.mark.parametrize("name, shown", [
+    (b"a\x1b[31m", "a?[31m"), (b"a\xc2\x9b31m", "a?31m"), (b"a\x9b", "a?"),
+    (b"a\x07\x7f\b", "a???"), (b"a\xc3\xa9", "a\xe9"), (b"a\xe2\x9b\x80", "a\u26c0"),
+    (b"a\xe9", "a\udce9")])
+
+
+@each_name
+def test_names_on_standard_error(name: bytes, shown: str, tmp_path: Path) -> None:
+    """No control byte reaches a terminal, and letters beyond ASCII do."""
+    answer = solve([os.fsdecode(name)], cwd=tmp_path)
+    assert answer.said.endswith(f"{shown}': No such file or directory\n")
+
+
+@each_name
+def test_assumptions_on_standard_error(name: bytes, shown: str, tmp_path: Path) -> None:
+    cube = written(name + b" 0\n", tmp_path, "cube")
+    answer = solve(["--assume", cube, written(FOUR, tmp_path)])
+    assert answer.said.endswith(f": not a number: {shown})\n")
+
+
+@each_name
+def test_names_in_comments(name: bytes, shown: str, tmp_path: Path) -> None:
+    """Comments are in ASCII."""
+    formula = written(FOUR, tmp_path, os.fsdecode(name))
+    answer = solve(["-v", "-j", "1", formula.name], cwd=tmp_path)
+    assert re.sub(rb"[^ -~]", b"?", os.fsencode(shown)).decode() in answer.out
+
+
+def test_names_with_a_line_feed(tmp_path: Path) -> None:
+    kept, formula = tmp_path / "a\nrecord", written("p cnf 1 2\n1 0\n-1 0\n", tmp_path,
+                                                    "a\nformula")
+    answer = solve(["-v", "-j", "1", "--proofs", kept, formula])
+    want_answer(answer, 20)
+    assert [line for line in answer.out.splitlines() if line[:2] not in ("c ", "s ")] == []
+    assert sum("1 clause checked" in line for line in answer.comments) == 1, answer.out
+    check_again(kept)
+
+
+# Formulas with an unusual spelling.
+
+
+each_spelling = pytest.mark.parametrize("text, status", [
+    ("p cnf 1 2\n1 0\n-1 0", 20), ("p cnf 1 2\r\n1 0\r\n-1 0\r\n", 20),
+    ("\n \t\r\nc x\n\t p  cnf\t1 2 \t\n1\t0 -1 \r 0\n", 20),
+    ("p cnf 2 2\n1\nc 0 2 -2 x\n2 0\n-1 0\n", 10), ("p cnf 2 3\n1 2\n0 -1 0 -2\n\n0", 20),
+    ("p cnf 1 2\n1 0\n-1 0\nc no LF", 20),
+    (b"c \0\xff\nc\ncnf 1 1\np cnf 1 2\nc\0\n1 0 -1 0\n", 20), ("p cnf 0 1\n0\n", 20),
+    ("p cnf 0 0", 10), ("p cnf 3 0\n\n", 10), ("p cnf 1 2\n1 1 1 0\n-1 -1 0\n", 20),
+    ("p cnf 1 2\n1 -1 0\n-1 0\n", 10)])
+
+
+@each_spelling
+def test_lrup_solve_accepts(text: Text, status: int, tmp_path: Path) -> None:
+    formula = written(text, tmp_path)
     want_answer(solve([formula]), status, formula)
 
 
-def refused_folder(work: Path) -> None:
-    (work / "folder").mkdir()
-    answer = solve([work / "folder"])
-    want((answer.out, answer.said, answer.status),
-         ("", f"lrupd: cannot read formula ({work}/folder: Is a directory)\n", 1), "the messages")
+@each_spelling
+def test_lrup_exact_and_lrupd_accept(text: Text, status: int, tmp_path: Path) -> None:
+    """If the formula is unsatisfiable, the filter finds the empty clause by unit propagation."""
+    formula, is_refuted = written(text, tmp_path), status == 20
+    exact = run([FILTER, "--format", "drat", formula], "0\n" * is_refuted)
+    assert (exact.err, exact.status) == ("", 0)
+    assert exact.out.count("\n") == is_refuted
+    done = run([PROGRAM, *SMALL_ROW, formula, written(exact.out, tmp_path, "stream")])
+    assert (done.err, done.status) == ("", 0 if is_refuted else 3)
+    assert done.out.splitlines()[-1] == VERDICTS[done.status]
 
 
-def read_late(text: str, said: str, work: Path) -> None:
+# What is refused.
+
+
+@pytest.mark.parametrize("words, said", named((" ".join(words), words, said) for words, said in (
+    (["--nothing", "formula"], "--nothing"), (["-vx", "formula"], "-vx"),
+    (["formula", "formula"], "unexpected argument"),
+    (["--", "formula", "-v"], "unexpected argument: -v"),
+    (["-j"], "no value after -j"), (["-j", "0", "formula"], "-j takes 1 to 64, not 0"),
+    (["-j", "65", "formula"], "-j takes 1 to 64, not 65"), (["-j", "x", "formula"], "not x"),
+    (["--time", "-1", "formula"], "--time takes seconds above 0, not -1"),
+    (["--time", "nan", "formula"], "not nan"), (["--time", "0", "formula"], "not 0"),
+    (["--memory", "", "formula"], "not ''"),
+    (["--memory", "2g", "formula"], "2000M or 2G, not 2g"),
+    (["--memory", "3G", "formula"], "--memory takes at most 2147483648 bytes, not 3G"),
+    (["--memory", "2147483649", "formula"], "at most"),
+    (["--memory", "99999999999999999999", "formula"], "at most"),
+    (["--memory", "2M,1M", "formula"],
+     "--memory takes a second number that isn't below the first, not 1M"),
+    (["--memory", "1M,", "formula"], "not ''"), (["--memory", "1M,3G", "formula"], "at most"),
+    (["--share-size", "-1", "formula"], "--share-size takes 0 to 1000, not -1"),
+    (["--seed", "1.5", "formula"], "--seed takes 0 to 1000000000, not 1.5"),
+    (["--lrupd", "./none", "formula"], "none"), (["--lrupd", "", "formula"], "not ''"),
+    (["--lrupd", "./", "formula"], "no lrupd"), (["--lrupd", "none", "formula"], "no lrupd"),
+    (["--proofs", "none/none", "formula"], "none/none"),
+    (["--proofs", "", "formula"], "not ''"),
+    (["--proofs", "formula", "formula"], "Not a directory"),
+    (["--replace", "formula"], "--replace without --proofs"),
+    (["none"], "none: No such file or directory"),
+    (["a\nb"], "a\\nb': No such file or directory"),
+    (["--assume", "none", "formula"], "none: No such file or directory"),
+    (["--proofs", "new", "none"], "none: No such file or directory"))))
+def test_arguments_that_are_refused(words: List[str], said: str, tmp_path: Path) -> None:
+    written(FOUR, tmp_path, "formula")
+    want_refused(words, said, cwd=tmp_path)
+
+
+@pytest.mark.parametrize("name", COMPRESSED)
+def test_a_compressed_formula(name: str, tmp_path: Path) -> None:
+    """Its name doesn't say that it is compressed."""
+    written(COMPRESSED[name], tmp_path, name)
+    want_refused([name], f"{name}: compressed: unpack it with {name}", cwd=tmp_path)
+
+
+def test_a_folder_in_place_of_the_formula(tmp_path: Path) -> None:
+    answer = solve([tmp_path])
+    assert (answer.out, answer.status) == ("", 1)
+    assert answer.said == f"lrupd: cannot read formula ({tmp_path}: Is a directory)\n"
+
+
+class Refused(NamedTuple):
+    """A formula, lrupd's words, and the line and the words that lrup-exact and lrup-solve add."""
+    text: str
+    fault: str
+    line: int
+    known: str
+
+
+def refused_formulas() -> Iterator[Refused]:
+    header, more = ("no header 'p cnf VARIABLES CLAUSES': not DIMACS CNF",
+                    "more clauses than the header's 1")
+    for text, line, word in (
+            ("1 x 0", 2, "x"), ("1 -0", 2, "-0"), ("c 0\n1 -0", 3, "-0"), ("-", 2, "-"),
+            ("+1 0", 2, "+1"), ("01 0", 2, "01"), ("-01 0", 2, "-01"), ("1 00", 2, "00"),
+            ("1 0\n%\n0", 3, "%: SATLIB's files end with it, and sed '/^%/,$d' removes it"),
+            ("1 0 c", 2, "c"), (" c x\n1 0", 2, "c"), ("1\v2 0", 2, "1?2"), ("1 2\f0", 2, "2?0"),
+            ("1\0 0", 2, "1?"), ("1 0\0", 2, "0?"), ("1 0\n\x1a", 3, "?"), ("1,2 0", 2, "1,2"),
+            ("1 2.0 0", 2, "2.0"), ("1 0x2 0", 2, "0x2")):
+        yield Refused(f"p cnf 2 1\n{text}\n", f"bad number in line {line}", line,
+                      f"not a number: {word}")
+    for text, line in (
+            ("", 1), ("c x\n", 2), ("1 2 0\n", 1), ("pcnf 1 1\n1 0\n", 1), ("P CNF 1 1\n1 0\n", 1),
+            (" c x\np cnf 1 1\n1 0\n", 1), ("\ufeffp cnf 1 1\n1 0\n", 1),
+            ("p\vcnf 1 1\n1 0\n", 1), ("p\0 cnf 1 1\n1 0\n", 1), ("%\np cnf 1 1\n1 0\n", 1)):
+        yield Refused(text, "no header", line, header)
+    for text, line in (
+            ("c x\np cnf 2\n", 2), ("p cnf 02 1\n1 0\n", 1), ("p cnf 1 01\n1 0\n", 1),
+            ("p cnf 00 0\n", 1), ("p cnf +1 1\n1 0\n", 1), ("p cnf 1 -1\n1 0\n", 1),
+            ("p cnf -0 0\n", 1), ("p cnf 1 x\n1 0\n", 1), ("p cnf\n1 1\n1 0\n", 1),
+            ("p\ncnf 1 1\n1 0\n", 1), ("p cnf 1 1\v\n1 0\n", 1), ("p cnf 1\f1\n1 0\n", 1),
+            ("p CNF 1 1\n1 0\n", 1), ("p sat 1\n", 1)):
+        yield Refused(text, "bad header", line, header)
+    for text in ("p cnf 2 1 1 2 0\n", "p cnf 1 1 c x\n1 0\n", "p cnf 1 1\r1 0\r",
+                 "p cnf 1 1 \v\n1 0\n", "p cnf 1 1 1\n1 0\n"):
+        yield Refused(text, "bad header", 1,
+                      "unexpected words after the header 'p cnf VARIABLES CLAUSES'")
+    yield Refused("p cnf 2 2\n1 0\n", "too few clauses", 3, "file ends after 1 of 2 clauses; "
+                  "truncated? If not, the header should be 'p cnf 2 1'")
+    for text, known in (
+            ("2 0\n", f"{more}: the header should be 'p cnf 2 2'"),
+            ("0\nc\n-2 1\n0 -1 0", f"{more}: the header should be 'p cnf 2 4'"),
+            ("2 0\n1 7 0", f"{more}: the header should be 'p cnf 7 3'"),
+            ("2 0\n1 x 0", more), ("2 0\n1", more)):
+        yield Refused(f"p cnf 2 1\n1 0\n{text}", "too many clauses in line 3", 3, known)
+    for text, variable in (
+            ("1 -3 0\n", "3, above the header's 2: the header should be 'p cnf 3 1'"),
+            ("1 0 3 0\n", "3, above the header's 2: the header should be 'p cnf 3 2'"),
+            ("1 3\n-16777215 0\n9 0\n",
+             "3, above the header's 2: the header should be 'p cnf 16777215 2'"),
+            ("1 3 16777216 0\n", "3, above the header's 2"),
+            ("1 99999999999999999999 0\n", "99999999999999999999, above the header's 2"),
+            ("-18446744073709551617 2 0\n", "18446744073709551617, above the header's 2"),
+            ("-" + "1" * 30 + " 2 0\n", "1" * 20 + ".., above the header's 2")):
+        yield Refused(f"p cnf 2 1\n{text}", "variable out of range in line 2", 2,
+                      f"variable {variable}")
+    yield Refused("p cnf 2 1\n1 2", "open clause", 2, "the last clause doesn't end with 0")
+    for text, line, known in (
+            ("p cnf 99999999 1\n1 0\n", 1, "99999999 variables, above lrupd's limit of 16777215"),
+            ("p cnf 1 16777216\n1 0\n", 1, "16777216 clauses, above lrupd's limit of 16777215"),
+            ("p cnf 1 1\n" + "1 " * 1048576 + "0\n", 2,
+             "more than 1048575 literals in a clause, lrupd's limit")):
+        yield Refused(text, "limit", line, known)
+
+
+each_refused_formula = pytest.mark.parametrize(
+    "refused", [*refused_formulas()], ids=lambda refused: repr(refused.text[:40]))
+
+
+@each_refused_formula
+def test_lrupd_refuses(refused: Refused, tmp_path: Path) -> None:
+    done = run([PROGRAM, written(refused.text, tmp_path), "/dev/null"])
+    assert done == Ran("", f"lrupd: formula refused: {refused.fault}\n", 4)
+
+
+@each_refused_formula
+def test_lrup_exact_refuses(refused: Refused, tmp_path: Path) -> None:
+    formula = written(refused.text, tmp_path, "a formula")
+    done = run([FILTER, "--format", "drat", formula, "/dev/null"])
+    assert done == Ran("", f"lrup-exact: {formula}, line {refused.line}: {refused.known}\n", 1)
+
+
+def refusal(refused: Refused, name: str) -> str:
+    """What lrup-solve says of the formula with this name."""
+    return (f"lrupd: formula refused: {refused.fault} ({name}, line {refused.line}: "
+            f"{refused.known})\n")
+
+
+@each_refused_formula
+def test_lrup_solve_refuses(refused: Refused, tmp_path: Path) -> None:
+    formula = written(refused.text, tmp_path, "a formula")
+    answer = solve([formula])
+    assert (answer.out, answer.status) == ("", 1)
+    assert answer.said == refusal(refused, f"'{formula}'")
+
+
+@each_refused_formula
+def test_lrup_solve_refuses_standard_input(refused: Refused) -> None:
+    answer = solve(["-"], given=refused.text)
+    assert (answer.out, answer.status) == ("", 1)
+    assert answer.said == refusal(refused, "standard input")
+
+
+SPACED = "more than single spaces between its literals"
+
+
+def beyond(literal: object) -> str:
+    return f"the literal {literal}, but the formula has the variables 1 to 2"
+
+
+@pytest.mark.parametrize("formula", ["formula.cnf", "-"])
+@pytest.mark.parametrize("literals, fault, known", [
+    ("-2 x 0\n", "spelling", "not a number: x"), ("1  2 0\n", "spelling", SPACED),
+    ("1 2 0 \n", "spelling", SPACED), ("1\t2 0\n", "spelling", SPACED),
+    ("1 2 0\r\n", "spelling", "it has a CR, but lines must end with LF only"),
+    ("1 2 0", "spelling", "no LF at its end"), ("1 0\n2 0\n", "spelling", "a second line"),
+    ("1 2\n", "spelling", "no line of literals that ends with 0"),
+    ("-7 0\n", "variable out of range", beyond(-7)),
+    (f"{-(1 << 63)} 0\n", "too long", beyond(-(1 << 63))),
+    (f"{-(1 << 64) - 1} 0\n", "too long", beyond(-(1 << 64) - 1)),
+    pytest.param("1" * 100 + " 0\n", "too long", beyond("1" * 21 + ".."), id="100 digits")])
+def test_assumptions_that_are_refused(literals: str, fault: str, known: str, formula: str,
+                                      tmp_path: Path) -> None:
+    written(FOUR, tmp_path)
+    written(literals, tmp_path, "cube")
+    answer = solve(["--assume", "cube", formula], cwd=tmp_path, given=FOUR)
+    assert (answer.out, answer.status) == ("", 1)
+    assert answer.said == f"lrupd: assumptions refused: {fault} (cube: {known})\n"
+
+
+def test_a_folder_in_place_of_assumptions(tmp_path: Path) -> None:
+    (tmp_path / "cube").mkdir()
+    answer = solve(["--assume", "cube", written(FOUR, tmp_path)], cwd=tmp_path)
+    assert (answer.out, answer.status) == ("", 1)
+    assert answer.said == ("lrupd: cannot read assumptions (cube: no line of literals that ends "
+                           "with 0)\n")
+
+
+# lrupd reads the formula in a process of its own, before it is needed.
+
+
+def in_the_reading(what: str, work: Path) -> Path:
+    """A program that does this in place of the lrupd that only reads the formula."""
+    return in_place_of_lrupd(f"case \"$*\" in *' /dev/null') {what};; esac\n"
+                             f"exec {shlex.quote(PROGRAM)} \"$@\"", work)
+
+
+def solve_unread(text: str, work: Path) -> Answer:
     """lrupd doesn't finish reading the formula: --time ends the waiting at once."""
-    path = in_place_of_lrupd("case \"$*\" in *' /dev/null') exec sleep 100;; esac\nexec "
-                             + shlex.quote(PROGRAM) + ' "$@"', work)
-    begun, formula = time.monotonic(), written(text, work)
-    answer = solve(["--lrupd", path, "-j", "1", "--time", "1", formula])
-    lasts = time.monotonic() - begun
-    want((answer.answers, answer.status), ([], 1) if said else (["s UNKNOWN"], 0),
-         f"the answer of\n{answer.out}{answer.said}")
-    want(answer.said, said and f"lrup-solve: {formula}, {said}\n", "standard error")
-    want(1 <= lasts < 5, True, f"whether it ended by its time limit, after {lasts} seconds")
+    lrupd, begun = in_the_reading("exec sleep 100", work), time.monotonic()
+    answer = solve(["--lrupd", lrupd, "-j", "1", "--time", "1", written(text, work)])
+    assert 1 <= time.monotonic() - begun < 5
+    return answer
 
 
-def refused_late(text: str, work: Path) -> None:
-    """lrupd refuses the formula late, after the solving has ended; a signal ends the waiting."""
-    path = in_place_of_lrupd("case \"$*\" in *' /dev/null') touch read; sleep 2; echo 'lrupd: "
-                             "formula refused: limit' >&2; exit 4;; esac\n"
-                             "exit 4", work)
-    formula = written(text, work)
-    words = ["--lrupd", str(path), "-j", "1", formula]
-    answer = solve(words, cwd=work)
-    want((answer.out, answer.said, answer.status),
-         ("", f"lrupd: formula refused: limit ({formula})\n", 1), "the messages")
-    (work / "read").unlink()
-    with started([SOLVE, *words], cwd=work, stdout=subprocess.PIPE, text=True) as running:
-        until("the formula is read", lambda: (work / "read").exists())
+def test_a_formula_that_is_not_read_in_time(tmp_path: Path) -> None:
+    want_answer(solve_unread("p cnf 1 1\n1 0\n", tmp_path), 0)
+
+
+def test_a_formula_that_only_engines_refuse_in_time(tmp_path: Path) -> None:
+    answer = solve_unread("p cnf 1 1\n2 0\n", tmp_path)
+    assert (answer.answers, answer.status) == ([], 1)
+    assert answer.said == (f"lrup-solve: {tmp_path / 'formula.cnf'}, line 2: variable 2, above the "
+                           "header's 1: the header should be 'p cnf 2 1'\n")
+
+
+def test_lrupd_is_killed_while_it_reads(tmp_path: Path) -> None:
+    """That is like any other death of lrupd."""
+    lrupd = in_the_reading("kill -9 $$", tmp_path)
+    answer = solve(["--lrupd", lrupd, "-j", "1", written("p cnf 1 0\n", tmp_path)])
+    want_answer(answer, 0)
+    assert "lrupd ended by a signal: Killed" in answer.comments
+
+
+@pytest.fixture
+def late(tmp_path: Path) -> Path:
+    """A program in place of lrupd, which refuses the formula after the solving has ended."""
+    return in_place_of_lrupd("case \"$*\" in *' /dev/null') touch read; sleep 2; echo 'lrupd: "
+                             "formula refused: limit' >&2;; esac\nexit 4", tmp_path)
+
+
+each_solved = pytest.mark.parametrize("text", named([("unsatisfiable", FOUR),
+                                                     ("satisfiable", "p cnf 1 0\n")]))
+
+
+@each_solved
+def test_lrupd_refuses_late(text: str, late: Path, tmp_path: Path) -> None:
+    formula = written(text, tmp_path)
+    answer = solve(["--lrupd", late, "-j", "1", formula], cwd=tmp_path)
+    assert (answer.out, answer.status) == ("", 1)
+    assert answer.said == f"lrupd: formula refused: limit ({formula})\n"
+
+
+@each_solved
+def test_a_signal_while_only_lrupd_reads(text: str, late: Path, tmp_path: Path) -> None:
+    """It ends the waiting."""
+    words = command(["--lrupd", late, "-j", "1", written(text, tmp_path)])
+    with started(words, cwd=tmp_path, stdout=subprocess.PIPE, text=True) as running:
+        until("the formula is read", lambda: (tmp_path / "read").exists())
         time.sleep(0.5)
         running.terminate()
         out = running.communicate(timeout=LIMIT)[0]
-    want((out.splitlines()[-1:], running.returncode), (["s UNKNOWN"], -signal.SIGTERM),
-         "the end by a signal")
+    assert out.splitlines()[-1:] == ["s UNKNOWN"]
+    assert running.returncode == -signal.SIGTERM
 
 
 LATE_THREAD = """#define _GNU_SOURCE
@@ -506,228 +873,14 @@ int pthread_create(pthread_t *thread, const pthread_attr_t *how, void *(*work)(v
 """
 
 
-def refused_early(work: Path) -> None:
+def test_only_one_thread_waits_for_lrupds_refusal(tmp_path: Path) -> None:
     """The reading thread refuses the formula before the main thread has that thread's id, and lrupd
-    refuses it later: only one thread waits for lrupd's answer, since the front's message can be
-    read only once."""
-    source = written(LATE_THREAD, work, "late.c")
-    late = compiled(work / "late.so", [source], "-shared", "-fPIC", "-ldl")
-    formula = written("p cnf 2 1\n1000000000000000000 2 0\n", work)
-    lrupd = in_place_of_lrupd(f"sleep 1\nexec {shlex.quote(PROGRAM)} \"$@\"", work)
+    refuses it later. The front's message can be read only once."""
+    source = written(LATE_THREAD, tmp_path, "late.c")
+    late = compiled(tmp_path / "late.so", [source], "-shared", "-fPIC", "-ldl")
+    formula = written("p cnf 2 1\n1000000000000000000 2 0\n", tmp_path)
+    lrupd = in_place_of_lrupd(f"sleep 1\nexec {shlex.quote(PROGRAM)} \"$@\"", tmp_path)
     answer = solve(["-q", "--lrupd", lrupd, formula], env_more={"LD_PRELOAD": str(late)})
-    said = (f"lrupd: formula refused: variable out of range in line 2 ({formula}, line 2: variable "
-            "1000000000000000000, above the header's 2)\n")
-    want((answer.out, answer.said, answer.status), ("", said, 1), "the messages")
-
-
-def reading_killed(text: str, work: Path) -> None:
-    """lrupd is killed while it reads the formula. That is like any other death of lrupd."""
-    path = in_place_of_lrupd(
-        "case \"$*\" in *' /dev/null') kill -9 $$;; esac\nexec " + shlex.quote(PROGRAM) + ' "$@"',
-        work)
-    answer = solve(["--lrupd", path, "-j", "1", written(text, work)])
-    want((answer.answers, answer.status, answer.said), (["s UNKNOWN"], 0, ""),
-         f"the answer of\n{answer.out}")
-    want("lrupd ended by a signal: Killed" in answer.comments, True,
-         f"whether a comment says so:\n{answer.out}")
-
-
-# The tests.
-
-
-def words_and_files() -> List[Row]:
-    cube = "p cnf 3 3\n1 2 0\n-1 2 0\n3 -3 0\n"
-    under = "s UNSATISFIABLE UNDER ASSUMPTIONS"
-    runs: List[Row] = [("standard input" + word, standard_input, [word] * bool(word))
-                       for word in ("", "-")]
-    runs += [("a FIFO", from_fifo), ("where lrupd is", beside, "lrupd", PROGRAM),
-             ("where lrup-model is", beside, "lrup-model", MODEL), ("-q", quiet),
-             ("verbose", verbose), ("keeps", keeps, []),
-             ("keeps four", keeps, ["-j", "4"]), ("keeps LRAT", keeps_lrat, "pigeons 7"),
-             ("keeps LRAT, random", keeps_lrat, "random 150 1"),
-             ("keeps standard input", keeps_standard_input),
-             ("keeps by short names", keeps_by_short_names), ("an earlier run", earlier_run),
-             ("another run's record", locked, "kept", signal.SIGTERM),
-             ("of one that is killed", locked, "link", signal.SIGKILL),
-             ("links in a record", links_in_a_record), ("a report that can't be kept", unkept),
-             ("a name with an end of line", name_with_an_end_of_line),
-                  ("assumptions that contradict", assuming, cube, "-2 0\n", 20, under),
-             ("assumptions of which one does", assuming, cube, "3 1 -2 0\n", 20, under),
-             ("assumptions that fit", assuming, cube, "2 -1 0\n", 10, None),
-             ("no assumptions", assuming, cube, "0\n", 10, None),
-             ("assumptions, and no need of them", assuming, FOUR.replace("cnf 2", "cnf 3"),
-              "3 0\n", 20, None),
-             ("assumptions against each other", contradicting),
-             ("a unit against the assumption", assuming, "p cnf 1 1\n1 0\n", "-1 0\n", 20, under)]
-    runs += [(" ".join(["standard input as", *words]), another_name, words) for words in
-             (["/dev/stdin"], ["/proc/self/fd/0"], ["{work}/link"], ["/dev/fd/5"], ["--", "-"],
-              ["--replace", "--proofs", "{work}/kept", "/dev/stdin"])]
-    many = {"FIRST_WORDS": 4000, "SAME_WORDS": 1}
-    runs += [(f"names that aren't UTF-8 {number}", keeps_not_utf8, words, tested)
-             for tested in ({"SLICE": 50}, {**many, "SLICE": 50}) for number, words in enumerate(
-                 ([], ["--assume", CUBE], ["--proofs", "kept"],
-                  ["--proofs", os.fsdecode(b"kept\xff")], ["--assume", CUBE, "--proofs", "kept"]))]
-    runs += [("a folder that is made", made_where_all_may_write)]
-    runs += [(f"a folder of mode {mode:o}", others_write, mode, taken)
-             for mode, taken in ((0o777, False), (0o757, False), (0o1777, True), (0o775, True),
-                                 (0o700, True))]
-    runs += [(f"the user's {name}", own_files, name) for name in (
-        "about", "formula.cnf", "formula.sha256", "assumptions", "report", "command", ".report.new",
-        "round-7.sizes", "round-2.stream-3")]
-    runs += [(f"the user's list {text!r}", own_list, text) for text in LISTS]
-    runs += [("a formula of a round", formula_of_a_round), ("a record with a proof", replaced)]
-    runs += [(f"control bytes {what!r}", control_bytes, what, shown) for what, shown in (
-        (b"\x1b[31m", "?[31m"), (b"\xc2\x9b31m", "?31m"), (b"\x9b", "?"), (b"\x07\x7f\b", "???"),
-        (b"\xc3\xa9", "\xe9"), (b"\xe2\x9b\x80", "\u26c0"), (b"\xe9", "\udce9"))]
-    runs += [(" ".join(["over", *words]), writes_over, words)
-             for words in (["formula.cnf"], ["formula.cnf", "{path}"],
-                           ["round-1.stream-1", "{path}"], ["round-12.stream-64", "{path}"],
-                           ["report", "{work}/link"], ["command", "{work}/other"],
-                           ["round-1.stream-2", "/dev/stdin"],
-                           ["round-3.sizes", "{path}"], ["x", "--assume", "{cube}", "{path}"])]
-    return runs
-
-
-def refused_texts() -> List[Tuple[Text, str, int, str]]:
-    """Formulas, lrupd's answer, and the line and message of the filter and of lrup-solve."""
-    header, more = ("no header 'p cnf VARIABLES CLAUSES': not DIMACS CNF",
-                    "more clauses than the header's 1")
-    no_number = [
-        (f"p cnf 2 1\n{text}\n", f"bad number in line {line}", line, f"not a number: {word}")
-        for text, line, word in (
-            ("1 x 0", 2, "x"), ("1 -0", 2, "-0"), ("c 0\n1 -0", 3, "-0"), ("-", 2, "-"),
-            ("+1 0", 2, "+1"), ("01 0", 2, "01"), ("-01 0", 2, "-01"), ("1 00", 2, "00"),
-            ("1 0\n%\n0", 3, "%: SATLIB's files end with it, and sed '/^%/,$d' removes it"),
-            ("1 0 c", 2, "c"), (" c x\n1 0", 2, "c"), ("1\v2 0", 2, "1?2"), ("1 2\f0", 2, "2?0"),
-            ("1\0 0", 2, "1?"), ("1 0\0", 2, "0?"), ("1 0\n\x1a", 3, "?"), ("1,2 0", 2, "1,2"),
-            ("1 2.0 0", 2, "2.0"), ("1 0x2 0", 2, "0x2"))]
-    no_header = [(text, "no header", line, header) for text, line in (
-        ("", 1), ("c x\n", 2), ("1 2 0\n", 1), ("pcnf 1 1\n1 0\n", 1), ("P CNF 1 1\n1 0\n", 1),
-        (" c x\np cnf 1 1\n1 0\n", 1), ("\ufeffp cnf 1 1\n1 0\n", 1), ("p\vcnf 1 1\n1 0\n", 1),
-        ("p\0 cnf 1 1\n1 0\n", 1), ("%\np cnf 1 1\n1 0\n", 1))]
-    bad_header = [(text, "bad header", line, header) for text, line in (
-        ("c x\np cnf 2\n", 2), ("p cnf 02 1\n1 0\n", 1), ("p cnf 1 01\n1 0\n", 1),
-        ("p cnf 00 0\n", 1), ("p cnf +1 1\n1 0\n", 1),
-        ("p cnf 1 -1\n1 0\n", 1), ("p cnf -0 0\n", 1), ("p cnf 1 x\n1 0\n", 1),
-        ("p cnf\n1 1\n1 0\n", 1), ("p\ncnf 1 1\n1 0\n", 1), ("p cnf 1 1\v\n1 0\n", 1),
-        ("p cnf 1\f1\n1 0\n", 1), ("p CNF 1 1\n1 0\n", 1), ("p sat 1\n", 1))]
-    bad_header += [
-        (text, "bad header", 1, "unexpected words after the header 'p cnf VARIABLES CLAUSES'")
-        for text in ("p cnf 2 1 1 2 0\n", "p cnf 1 1 c x\n1 0\n", "p cnf 1 1\r1 0\r",
-                     "p cnf 1 1 \v\n1 0\n", "p cnf 1 1 1\n1 0\n")]
-    return [*no_number, *no_header, *bad_header,
-            ("p cnf 2 2\n1 0\n", "too few clauses", 3,
-             "file ends after 1 of 2 clauses; truncated? If not, the header should be 'p cnf 2 1'"),
-            ("p cnf 2 1\n1 0\n2 0\n", "too many clauses in line 3", 3,
-             f"{more}: the header should be 'p cnf 2 2'"),
-            ("p cnf 2 1\n1 0\n0\nc\n-2 1\n0 -1 0", "too many clauses in line 3", 3,
-             f"{more}: the header should be 'p cnf 2 4'"),
-            ("p cnf 2 1\n1 0\n2 0\n1 7 0", "too many clauses in line 3", 3,
-             f"{more}: the header should be 'p cnf 7 3'"),
-            ("p cnf 2 1\n1 0\n2 0\n1 x 0", "too many clauses in line 3", 3, more),
-            ("p cnf 2 1\n1 0\n2 0\n1", "too many clauses in line 3", 3, more),
-            ("p cnf 2 1\n1 -3 0\n", "variable out of range in line 2", 2,
-             "variable 3, above the header's 2: the header should be 'p cnf 3 1'"),
-            ("p cnf 2 1\n1 0 3 0\n", "variable out of range in line 2", 2,
-             "variable 3, above the header's 2: the header should be 'p cnf 3 2'"),
-            ("p cnf 2 1\n1 3\n-16777215 0\n9 0\n", "variable out of range in line 2", 2,
-             "variable 3, above the header's 2: the header should be 'p cnf 16777215 2'"),
-            ("p cnf 2 1\n1 3 16777216 0\n", "variable out of range in line 2", 2,
-             "variable 3, above the header's 2"),
-            ("p cnf 2 1\n1 99999999999999999999 0\n", "variable out of range in line 2", 2,
-             "variable 99999999999999999999, above the header's 2"),
-            ("p cnf 2 1\n-18446744073709551617 2 0\n", "variable out of range in line 2", 2,
-             "variable 18446744073709551617, above the header's 2"),
-            ("p cnf 2 1\n-" + "1" * 30 + " 2 0\n", "variable out of range in line 2", 2,
-             "variable " + "1" * 20 + ".., above the header's 2"),
-            ("p cnf 2 1\n1 2", "open clause", 2, "the last clause doesn't end with 0"),
-            ("p cnf 99999999 1\n1 0\n", "limit", 1,
-             "99999999 variables, above lrupd's limit of 16777215"),
-            ("p cnf 1 16777216\n1 0\n", "limit", 1,
-             "16777216 clauses, above lrupd's limit of 16777215"),
-            ("p cnf 1 1\n" + "1 " * 1048576 + "0\n", "limit", 2,
-             "more than 1048575 literals in a clause, lrupd's limit")]
-
-
-def taken_texts() -> List[Row]:
-    """Oddly spelled formulas that are accepted; and whether they are satisfiable."""
-    texts = [("p cnf 1 2\n1 0\n-1 0", 20), ("p cnf 1 2\r\n1 0\r\n-1 0\r\n", 20),
-             ("\n \t\r\nc x\n\t p  cnf\t1 2 \t\n1\t0 -1 \r 0\n", 20),
-             ("p cnf 2 2\n1\nc 0 2 -2 x\n2 0\n-1 0\n", 10), ("p cnf 2 3\n1 2\n0 -1 0 -2\n\n0", 20),
-             ("p cnf 1 2\n1 0\n-1 0\nc no LF", 20),
-             (b"c \0\xff\nc\ncnf 1 1\np cnf 1 2\nc\0\n1 0 -1 0\n", 20), ("p cnf 0 1\n0\n", 20),
-             ("p cnf 0 0", 10), ("p cnf 3 0\n\n", 10),
-             ("p cnf 1 2\n1 1 1 0\n-1 -1 0\n", 20), ("p cnf 1 2\n1 -1 0\n-1 0\n", 10)]
-    return [(f"taken {text!r}", taken_by_all, text, status) for text, status in texts]
-
-
-SPACED = ": more than single spaces between its literals"
-
-
-def refusals() -> List[Row]:
-    runs: List[Row] = []
-    for words, cause in (
-            (["--nothing", "{formula}"], "--nothing"), (["-vx", "{formula}"], "-vx"),
-            (["{formula}", "{formula}"], "unexpected argument"),
-            (["-j"], "no value after -j"), (["-j", "0", "{formula}"], "-j takes 1 to 64, not 0"),
-            (["-j", "65", "{formula}"], "-j takes 1 to 64, not 65"),
-            (["-j", "x", "{formula}"], "not x"),
-            (["--time", "-1", "{formula}"], "--time takes seconds above 0, not -1"),
-            (["--time", "nan", "{formula}"], "not nan"), (["--time", "0", "{formula}"], "not 0"),
-            (["--memory", "", "{formula}"], "not ''"),
-            (["--memory", "2g", "{formula}"], "2000M or 2G, not 2g"),
-            (["--memory", "3G", "{formula}"], "--memory takes at most 2147483648 bytes, not 3G"),
-            (["--memory", "2147483649", "{formula}"], "at most"),
-            (["--memory", "99999999999999999999", "{formula}"], "at most"),
-            (["--memory", "2M,1M", "{formula}"],
-             "--memory takes a second number that isn't below the first, not 1M"),
-            (["--memory", "1M,", "{formula}"], "not ''"),
-            (["--memory", "1M,3G", "{formula}"], "at most"),
-            (["--share-size", "-1", "{formula}"], "--share-size takes 0 to 1000, not -1"),
-            (["--seed", "1.5", "{formula}"], "--seed takes 0 to 1000000000, not 1.5"),
-            (["--lrupd", "{work}/none", "{formula}"], "none"),
-            (["--lrupd", "", "{formula}"], "not ''"),
-            (["--lrupd", "{work}", "{formula}"], "no lrupd"),
-            (["--lrupd", "none", "{formula}"], "no lrupd"),
-            (["--proofs", "{work}/none/none", "{formula}"], "none/none"),
-            (["--proofs", "", "{formula}"], "not ''"),
-            (["--proofs", "{formula}", "{formula}"], "Not a directory"),
-            (["--replace", "{formula}"], "--replace without --proofs"),
-            (["--", "{formula}", "-v"], "unexpected argument: -v"),
-            (["{work}/none"], "{work}/none: No such file or directory"),
-            (["{work}/a\nb"], "a\\nb': No such file or directory"),
-            (["--assume", "{work}/none", "{formula}"], "{work}/none: No such file or directory"),
-            (["--proofs", "{work}/new", "{work}/none"], "none: No such file or directory"),
-            *((["{work}/" + name], f"{name}: compressed: unpack it with {name}")
-              for name in COMPRESSED)):
-        runs.append((" ".join(["lrup-solve", *words]), refused, words, cause))
-    runs += [(f"refused {text[:20]!r}", refused_by_all, text, *rest)
-             for text, *rest in refused_texts()]
-    beyond = "the literal {}, but the formula has the variables 1 to 2"
-    for name, known in (("bad", ": not a number: x"), ("beyond", ": " + beyond.format(-7)),
-                        ("spaces", SPACED),
-                        ("crlf", ": it has a CR, but lines must end with LF only"),
-                        ("noend", ": no LF at its end"), ("two", ": a second line"),
-                        ("blank", SPACED), ("tab", SPACED),
-                        ("open", ": no line of literals that ends with 0"),
-                        ("least", ": " + beyond.format(-(1 << 63))),
-                        ("less", ": " + beyond.format(-(1 << 64) - 1)),
-                        ("long", ": " + beyond.format("1" * 21 + "..")),
-                        ("", ": no line of literals that ends with 0")):
-        runs.append((f"refused --assume {name}", refused_by_lrupd, FOUR,
-                     ["--assume", "{work}/" + name], "{work}/" + name + known))
-    return runs + [("refused, a folder", refused_folder), ("refused late", refused_late, FOUR),
-                   ("refused late, satisfiable", refused_late, "p cnf 1 0\n"),
-                   ("refused before its thread is known", refused_early),
-                   ("its reading killed", reading_killed, "p cnf 1 0\n"),
-                   ("read late", read_late, dimacs(1, [[1]]), ""),
-                   ("read late, what engines refuse", read_late, "p cnf 1 1\n2 0\n",
-                    "line 2: variable 2, above the header's 1: the header should be 'p cnf 2 1'")]
-
-
-def rows() -> List[Row]:
-    return words_and_files() + taken_texts() + refusals()
-
-
-pytestmark = FOR_TESTS
-test_row = parametrized(rows())
+    assert (answer.out, answer.status) == ("", 1)
+    assert answer.said == (f"lrupd: formula refused: variable out of range in line 2 ({formula}, "
+                           "line 2: variable 1000000000000000000, above the header's 2)\n")
