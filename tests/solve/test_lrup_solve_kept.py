@@ -1,8 +1,9 @@
-"""Runs lrup-solve with --core and --lrat, and checks what it keeps of a run.
+"""What lrup-solve keeps of a run: a core by --core, LRAT text by --lrat, and a record by --proofs.
 
-The outputs have to be reported and correct: the core's clauses are those of the formula with the
+Both outputs have to be reported and correct: the core's clauses are those of the formula with the
 given numbers, and lrupd refutes the core; an independent LRAT checker accepts the text, and so does
-lrupd. A record's check notices another formula. If lrupd refuses a line, lrup-explain is run."""
+lrupd. A record's check works wherever the record is, notices another formula, and leaves nothing,
+however it ends. If lrupd refuses a line, lrup-explain is run."""
 import hashlib
 import os
 import re
@@ -12,120 +13,183 @@ import signal
 import subprocess
 import time
 from pathlib import Path
-from typing import Dict, List, Mapping, Optional, Sequence, Tuple
+from typing import Any, Dict, List, Mapping, NamedTuple, Optional, Sequence, Tuple
 
 import pytest
 
-from harness import (EXPLAIN, FILTER, FOUR, LRUP_RECHECK, PROGRAM, ROOT, TRIM, Ran, Row,
-                     by_another, example, generated, needs, parametrized, run, started, until,
-                     want, written)
+from harness import (EXPLAIN, FILTER, FOUR, LRUP_RECHECK, PACKERS, PROGRAM, ROOT, TRIM, Ran,
+                     by_another, example, generated, named, needs, pack, run, started, until,
+                     written)
 from lrat import lrat_fault
 from proof_forms import Clause, read_formula
-from solving import (FOR_TESTS, MODELS, SOLVE, Answer, before_lrupd, check_again, command,
-                     in_environment, in_place_of_lrupd, marked, none_left, solve)
+from records import only_with
+from solving import (MODELS, SOLVE, Answer, before_lrupd, check_again, command, in_environment,
+                     in_place_of_lrupd, none_left, solve, want_answer)
 
+pytestmark = pytest.mark.usefixtures("solve_for_tests")
 PROVED, PROVED_UNDER = "s UNSATISFIABLE", "s UNSATISFIABLE UNDER ASSUMPTIONS"
-SMALL = {"SAME_WORDS": 1, "SLICE": 40, "FIRST_WORDS": 20000}
-ROUNDS = {"SAME_WORDS": 1, "SLICE": 50, "FIRST_WORDS": 4000}
+IN_ROUNDS = {"SAME_WORDS": 1, "SLICE": 40, "FIRST_WORDS": 20000}
+IN_MANY_ROUNDS = {"SAME_WORDS": 1, "SLICE": 50, "FIRST_WORDS": 4000}
+Hooks = Optional[Mapping[str, object]]
+
+
+@pytest.fixture
+def formula(tmp_path: Path) -> Path:
+    return generated("pigeons 5", tmp_path)
+
+
+@pytest.fixture
+def temporary(tmp_path: Path) -> Path:
+    """A folder for temporary files."""
+    (tmp_path / "temporary").mkdir()
+    return tmp_path / "temporary"
+
+
+def with_temporary(folder: Path) -> Dict[str, str]:
+    return {**os.environ, "TMPDIR": str(folder)}
+
+
+def digest(path: Path) -> str:
+    return hashlib.sha256(path.read_bytes()).hexdigest()
+
+
+# A core and LRAT text.
 
 
 def core_of(path: Path, formula: List[Clause]) -> List[Clause]:
-    """The clauses in the file. The line above each clause has its number in the formula."""
+    """The clauses in the file, each of which has to be one of the formula's: the line above it has
+    its number there."""
     header, *lines = path.read_text().splitlines()
     numbers = [int(line[len("c id "):]) for line in lines[::2]]
     clauses = [list(map(int, line.split()[:-1])) for line in lines[1::2]]
-    want((header.split()[3], clauses),
-         (str(len(clauses)), [formula[number - 1] for number in numbers]), "the core")
+    assert header.split()[3] == str(len(clauses))
+    assert clauses == [formula[number - 1] for number in numbers]
     return clauses
 
 
-def left_in(files: Path) -> None:
-    until("its files are removed", lambda: not os.listdir(files), 10)
-
-
-def kept(words: Sequence[object], formula: Path, work: Path,
-         tested: Optional[Dict[str, object]] = None, verdict: str = PROVED,
-         names: Sequence[str] = (), given: Optional[str] = None) -> Answer:
-    """Keeps both outputs, under these names, and leaves nothing in the folder for temporary
-    files."""
+def keep_outputs(words: Sequence[object], formula: Path, tested: Hooks = None,
+                 verdict: str = PROVED, names: Sequence[str] = ("core.cnf", "proof.lrat"),
+                 given: Optional[str] = None) -> Answer:
+    """Keeps a core and LRAT text under these names, and checks both. No temporary file is left."""
+    work = formula.parent
     files = work / "temporary"
-    files.mkdir(exist_ok=True)
-    core, lrat = (work / name for name in names or ("core.cnf", "proof.lrat"))
-    outputs = ("--core", names[0] if names else core, "--lrat", names[1] if names else lrat)
-    answer = solve([*outputs, *words], tested=tested, env_more={"TMPDIR": str(files)},
-                   cwd=work, given=given)
-    want((answer.status, answer.answers, answer.said), (20, [verdict], ""),
-         f"the answer of\n{answer.out[-3000:]}")
-    count = sum(line.endswith(f": lrupd's verdict: {verdict}") for line in answer.comments)
-    want(count, 2, f"the number of such comments in\n{answer.out[-3000:]}")
-    for path in () if names else (core, lrat):
-        want(f"{path}: lrupd's verdict: {verdict}" in answer.comments, True,
-             f"whether a comment names {path}:\n{answer.out[-3000:]}")
+    files.mkdir()
+    answer = solve(["--core", names[0], "--lrat", names[1], *words], tested=tested, cwd=work,
+                   given=given, env_more={"TMPDIR": str(files)})
+    want_answer(answer, 20, verdict=verdict)
+    said = f": lrupd's verdict: {verdict}"
+    assert sum(line.endswith(said) for line in answer.comments) == 2, answer.out
     clauses = read_formula(formula)
-    found = core_of(core, clauses)
-    want(any(re.fullmatch(rf"{len(found)} of {len(clauses)} clauses, \d+ lines of \d+", line)
-             for line in answer.comments),
-         True, f"whether a comment has the counts:\n{answer.out[-3000:]}")
-    wanted = "" if verdict == PROVED else "no empty clause"
-    want(lrat_fault(clauses, lrat.read_text()), wanted, "the LRAT checker's message")
-    left_in(files)
+    core = core_of(work / names[0], clauses)
+    counts = rf"{len(core)} of {len(clauses)} clauses, \d+ lines of \d+"
+    assert any(re.fullmatch(counts, line) for line in answer.comments), answer.out
+    fault = lrat_fault(clauses, (work / names[1]).read_text())
+    assert fault == ("" if verdict == PROVED else "no empty clause")
+    until("its files are removed", lambda: not os.listdir(files), 10)
     return answer
 
 
-def of_random(words: str, formula_words: str, tested: Dict[str, object], work: Path) -> None:
-    formula = generated(formula_words, work)
-    answer = kept([*words.split(), formula], formula, work, tested)
-    want(solve([work / "core.cnf"]).status, 20, "the status of the core by itself")
-    lines = [line for line in answer.comments if line.startswith(str(work / "proof.lrat"))
-            and ": lrupd --" in line]
-    done = run([PROGRAM, *shlex.split(lines[0].split(": lrupd ")[1])])
-    want((done.out.splitlines()[-1], done.err, done.status), (PROVED, "", 0),
-         "lrupd's answer to the printed command")
+each_run = pytest.mark.parametrize("words, options, tested", named([
+    ("one engine", "random 150 1", ["-j", 1], {}), ("two engines", "random 170 4", ["-j", 2], {}),
+    ("rounds", "random 180 3", ["-j", 2], IN_ROUNDS)]))
 
 
-def from_a_pipe(work: Path) -> None:
-    formula = generated("pigeons 5", work)
-    kept(["-j", 1], formula, work, given=formula.read_text())
+@each_run
+def test_core_and_lrat(words: str, options: List[object], tested: Hooks, tmp_path: Path) -> None:
+    """Comments name both, and the core is refuted by itself."""
+    formula = generated(words, tmp_path)
+    answer = keep_outputs([*options, formula], formula, tested)
+    assert "core.cnf: lrupd's verdict: s UNSATISFIABLE" in answer.comments
+    assert "proof.lrat: lrupd's verdict: s UNSATISFIABLE" in answer.comments
+    want_answer(solve([tmp_path / "core.cnf"]), 20)
 
 
-def of_a_record(work: Path) -> None:
-    """Both outputs are kept, and a record, too."""
-    formula = generated("pigeons 6", work)
-    kept(["-j", 2, "--proofs", "d", "--re-hint", formula], formula, work)
-    check_again(work / "d")
+@each_run
+def test_the_printed_command_checks_the_lrat_text(words: str, options: List[object], tested: Hooks,
+                                                  tmp_path: Path) -> None:
+    formula = generated(words, tmp_path)
+    answer = keep_outputs([*options, formula], formula, tested)
+    printed, = [line.split(": lrupd ")[1] for line in answer.comments
+                if line.startswith("proof.lrat: ") and ": lrupd --" in line]
+    done = run([PROGRAM, *shlex.split(printed)], cwd=tmp_path)
+    assert (done.err, done.status) == ("", 0)
+    assert done.out.splitlines()[-1] == PROVED
 
 
-def assuming(work: Path) -> None:
-    formula = written("p cnf 2 2\n1 2 0\n-1 2 0\n", work)
-    kept(["--assume", written("-2 0\n", work, "cube"), formula], formula, work,
-         verdict=PROVED_UNDER)
+def test_outputs_for_standard_input(formula: Path) -> None:
+    keep_outputs(["-j", 1], formula, given=formula.read_text())
 
 
-def one_alone(option: str, work: Path) -> None:
-    formula = generated("pigeons 5", work)
-    answer = solve(["-j", 1, option, "there", formula], cwd=work)
-    want((answer.status, answer.answers, (work / "there").exists()),
-         (20, [PROVED], True), "the answer")
-    want("there: lrupd's verdict: s UNSATISFIABLE" in answer.comments, True,
-         f"whether a comment says so:\n{answer.out}")
+def test_outputs_beside_a_record(tmp_path: Path) -> None:
+    formula = generated("pigeons 6", tmp_path)
+    keep_outputs(["-j", 2, "--proofs", "d", "--re-hint", formula], formula)
+    check_again(tmp_path / "d")
 
 
-def no_proof(work: Path) -> None:
-    formula = written("p cnf 1 1\n1 0\n", work)
-    answer = solve(["--core", "core", "--lrat", "lrat", formula], cwd=work)
-    want((answer.status, "no proof, and so no core and no LRAT text" in answer.comments),
-         (10, True), f"the answer\n{answer.out}")
-    want([(work / name).exists() for name in ("core", "lrat")], [False, False], "the outputs")
+@pytest.mark.parametrize("record, place", [("d", "d/"), ("./d", "d/"), ("d/", "./d//"),
+                                           ("d", "WORK/d/"), ("d", "d/../d/")])
+def test_outputs_in_the_record(record: str, place: str, formula: Path, tmp_path: Path) -> None:
+    """The record's folder doesn't exist yet."""
+    place = place.replace("WORK", str(tmp_path))
+    keep_outputs(["-j", 1, "--proofs", record, formula], formula,
+                 names=(f"{place}core.cnf", f"{place}proof.lrat"))
 
 
-def there_before(work: Path) -> None:
-    written("mine", work, "core")
-    answer = solve(["--core", "core", written(FOUR, work)], cwd=work)
-    want((answer.said, answer.answers, answer.status, (work / "core").read_text()),
-         ("lrup-solve: core: exists, not overwritten\n", [], 1, "mine"), "the answer")
+def test_outputs_under_assumptions(tmp_path: Path) -> None:
+    formula = written("p cnf 2 2\n1 2 0\n-1 2 0\n", tmp_path)
+    cube = written("-2 0\n", tmp_path, "cube")
+    keep_outputs(["--assume", cube, formula], formula, verdict=PROVED_UNDER)
 
 
-def programs_beside(tools: Dict[str, str], work: Path) -> Path:
+@pytest.mark.parametrize("option", ["--core", "--lrat"])
+def test_one_output(option: str, formula: Path, tmp_path: Path) -> None:
+    answer = solve(["-j", 1, option, "there", formula], cwd=tmp_path)
+    want_answer(answer, 20)
+    assert "there: lrupd's verdict: s UNSATISFIABLE" in answer.comments
+    assert (tmp_path / "there").exists()
+
+
+def want_no_outputs(work: Path) -> None:
+    assert not (work / "core").exists()
+    assert not (work / "lrat").exists()
+
+
+def test_no_outputs_without_a_proof(tmp_path: Path) -> None:
+    formula = written("p cnf 1 1\n1 0\n", tmp_path)
+    answer = solve(["--core", "core", "--lrat", "lrat", formula], cwd=tmp_path)
+    want_answer(answer, 10, formula)
+    assert "no proof, and so no core and no LRAT text" in answer.comments
+    want_no_outputs(tmp_path)
+
+
+def test_an_output_that_exists_already(tmp_path: Path) -> None:
+    written("mine", tmp_path, "core")
+    answer = solve(["--core", "core", written(FOUR, tmp_path)], cwd=tmp_path)
+    assert (answer.answers, answer.status) == ([], 1)
+    assert answer.said == "lrup-solve: core: exists, not overwritten\n"
+    assert (tmp_path / "core").read_text() == "mine"
+
+
+@pytest.mark.parametrize("words, said", [
+    ("--core none/core", "none/core: No such file or directory"),
+    ("--proofs d --core none/core", "none/core: No such file or directory"),
+    ("--lrat /proc/lrat", "/proc/lrat: No such file or directory"),
+    ("--core one --lrat folder/lrupd/x", "folder/lrupd/x: Not a directory"),
+    ("--core one --lrat ./one", "./one: File exists"),
+    pytest.param(f"--lrat {'x' * 300}", f"{'x' * 300}: File name too long", id="a long name")])
+def test_outputs_that_cannot_be_written(words: str, said: str, formula: Path,
+                                        tmp_path: Path) -> None:
+    """They are refused before the run, and nothing is left."""
+    (tmp_path / "folder").mkdir()
+    lrupd = before_lrupd(f"touch {tmp_path}/began", tmp_path / "folder")
+    before = sorted(os.listdir(tmp_path))
+    answer = solve(["--lrupd", lrupd, *words.split(), formula], cwd=tmp_path)
+    assert (answer.out, answer.status) == ("", 1)
+    assert answer.said == f"lrup-solve: cannot write {said}\n"
+    assert sorted(os.listdir(tmp_path)) == before
+
+
+def programs_beside(tools: Mapping[str, str], work: Path) -> Path:
     """Copies of lrup-solve, lrup-engines and lrup-model, with these shell scripts in place of other
     tools."""
     (work / "bin").mkdir()
@@ -136,17 +200,11 @@ def programs_beside(tools: Dict[str, str], work: Path) -> Path:
     return work / "bin" / "lrup-solve"
 
 
-def with_another(tools: Dict[str, str], said: str, work: Path) -> None:
-    """The answer and its status are still lrupd's; an output that lrupd refuses isn't kept, and
-    standard error says so."""
-    program, formula = programs_beside(tools, work), written(FOUR, work)
-    done = run([program, "--lrupd", PROGRAM, "-j", 1, "--core", "core", "--lrat", "lrat", formula],
+def keep_with(tools: Mapping[str, str], work: Path) -> Ran:
+    """Keeps the outputs `core` and `lrat` with these tools, and no others."""
+    return run([programs_beside(tools, work), "--lrupd", PROGRAM, "-j", 1, "--core", "core",
+                "--lrat", "lrat", written(FOUR, work)],
                cwd=work, env={**os.environ, "PATH": "/usr/bin:/bin"})
-    is_solved = "no lrup-trim" not in said
-    want((done.err.splitlines()[-1], done.status), (f"lrup-solve: {said}", 20 if is_solved else 1),
-         f"the message, besides\n{done.out}")
-    want(("s UNSATISFIABLE" in done.out.splitlines()), is_solved, "whether the verdict is printed")
-    want([(work / name).exists() for name in ("core", "lrat")], [False, False], "the outputs")
 
 
 WRONG_TRIM = r"""while [ "$1" != -- ]; do
@@ -158,378 +216,571 @@ echo 1 0 1 1
 echo "c 1 of 4 clauses, 1 lines of 2"
 echo "c $lrat: 1 bytes of 1: lrupd --lines 1 --room 0 $2 $lrat"
 """
-ANOTHERS = [
-    ("wrong outputs", {"lrup-trim": WRONG_TRIM}, "lrupd rejects lrat, which was removed"),
-    ("no outputs", {"lrup-trim": "echo lrup-trim: no line derives the empty clause >&2; exit 1"},
+
+
+@pytest.mark.parametrize("body, said", named([
+    ("wrong outputs", WRONG_TRIM, "lrupd rejects lrat, which was removed"),
+    ("no outputs", "echo lrup-trim: no line derives the empty clause >&2; exit 1",
      "no core and no LRAT text: lrup-trim: no line derives the empty clause"),
-    ("lrup-trim killed", {"lrup-trim": "kill -9 $$"},
-     "no core and no LRAT text: lrup-trim ended by a signal: Killed"),
-    ("no lrup-trim", {}, "no lrup-trim next to this program or on the PATH: `make trim` builds it")]
+    ("killed", "kill -9 $$",
+     "no core and no LRAT text: lrup-trim ended by a signal: Killed")]))
+def test_another_lrup_trim(body: str, said: str, tmp_path: Path) -> None:
+    """The answer and its status are still lrupd's; an output that lrupd rejects isn't kept, and
+    standard error says so."""
+    done = keep_with({"lrup-trim": body}, tmp_path)
+    assert done.err.splitlines()[-1] == f"lrup-solve: {said}"
+    assert PROVED in done.out.splitlines()
+    assert done.status == 20
+    want_no_outputs(tmp_path)
 
 
-# Records.
+def test_no_lrup_trim(tmp_path: Path) -> None:
+    done = keep_with({}, tmp_path)
+    said = "no lrup-trim next to this program or on the PATH: `make trim` builds it"
+    assert done.err.splitlines()[-1] == f"lrup-solve: {said}"
+    assert PROVED not in done.out.splitlines()
+    assert done.status == 1
+    want_no_outputs(tmp_path)
 
 
-def another_formula(piped: bool, work: Path) -> None:
-    """The record has the SHA-256 of the formula, as sha256sum writes it; the record's check, and
-    lrup-trim, notice another formula."""
-    formula = generated("pigeons 5", work)
-    words = ["-j", 1, "--proofs", "d"]
-    answer = (solve(words, given=formula.read_text(), cwd=work) if piped
-              else solve([*words, formula], cwd=work))
-    want(answer.status, 20, "the status")
-    read = work / "d" / "formula.cnf" if piped else formula
-    want((work / "d" / "formula.sha256").read_text(),
-         f"{hashlib.sha256(formula.read_bytes()).hexdigest()}  {read}\n", "the digest")
-    check_again(work / "d")
-    read.write_text(read.read_text() + "c another one\n")
-    done = run(["sh", "d/command"], cwd=work)
-    want((done.out, done.status), ("", 1), f"the output of the record's check, with {done.err}")
-    want(done.err.splitlines()[-1],
-         f"lrup-recheck: {read} isn't the formula of this record, or was changed since",
-         "the messages")
+# Where a record and its formula are.
 
 
-def moved(words: str, piped: bool, tested: Optional[Dict[str, object]], work: Path) -> None:
-    """A record's names are relative to its folder, so the record can be checked anywhere, from any
-    folder, even by just the name of its script."""
-    formula, options = generated(words, work), ["-j", 2, "--proofs", "d"]
-    want(solve([*options, *([] if piped else [formula])], tested=tested, cwd=work,
-               given=formula.read_text() if piped else None).status, 20, "the status")
-    want(len(list((work / "d").glob("round-*.sizes"))) > 1, tested is not None,
-         "whether there are several rounds")
-    (work / "another folder").mkdir()
-    kept = (work / "d").rename(work / "another folder" / "it's moved")
-    check_again(kept)
-    done = run(["sh", "command"], cwd=kept, env={**os.environ, "CDPATH": str(work)})
-    want((done.out.splitlines()[-1], done.status), (PROVED, 0),
-         "the streams, checked in the folder")
-    if piped:
-        (kept / "formula.cnf").write_text("p cnf 1 1\n1 0\n")
-        said = f"{kept / 'formula.cnf'} isn't the formula of this record, or was changed since"
-        want(run(["sh", kept / "command"], cwd=work), Ran("", f"lrup-recheck: {said}\n", 1),
-             "the message on another formula")
+def number_of_rounds(record: Path) -> int:
+    return len(list(record.glob("round-*.sizes")))
 
 
-def not_there(name: str, piped: bool, work: Path) -> None:
-    """A missing file is reported as missing."""
-    formula, words = generated("pigeons 5", work), ["-j", 1, "--proofs", "d"]
-    answer = (solve(words, given=formula.read_text(), cwd=work) if piped
-              else solve([*words, formula], cwd=work))
-    want(answer.status, 20, "the status")
-    missing = work / (name or formula.name)
-    missing.rename(work / "elsewhere")
-    for cwd in work, "/":
-        want(run(["sh", work / "d" / "command"], cwd=cwd),
-             Ran("", f"lrup-recheck: {missing} isn't there, or can't be read\n", 1),
-             "the messages")
+def record_of(formula: Path, *options: object, tested: Hooks = None,
+              is_piped: bool = False) -> Path:
+    """The record of a run that refutes the formula, with hooks in several rounds. It is in the
+    folder d, beside the formula."""
+    record, words = formula.parent / "d", [*options, "--proofs", "d"]
+    want_answer(solve([*words, *([] if is_piped else [formula])], tested=tested,
+                      cwd=formula.parent, given=formula.read_text() if is_piped else None), 20)
+    assert (number_of_rounds(record) > 1) == bool(tested)
+    return record
 
 
-def strange_name(work: Path) -> None:
-    """sha256sum escapes a name with a backslash and an LF."""
-    formula = written(generated("pigeons 5", work).read_bytes(), work, "a\\ b\nc.cnf")
-    want(solve(["-j", 1, "--proofs", "d", formula], cwd=work).status, 20, "the status")
-    check_again(work / "d")
-    want(run(["sha256sum", "--quiet", "-c", "d/formula.sha256"], cwd=work).status, 0,
-         "sha256sum's status")
+@pytest.fixture
+def record(formula: Path) -> Path:
+    return record_of(formula, "-j", 1)
+
+
+def check(record: Path, *words: object, **how: Any) -> Ran:
+    """The record's check, from the folder that the record is in."""
+    return run(["sh", f"{record.name}/command", *words], cwd=record.parent, **how)
+
+
+def refused(said: str) -> Ran:
+    return Ran("", f"lrup-recheck: {said}\n", 1)
 
 
 def first_line(formula: Path) -> str:
-    return f"c formula {formula}, SHA-256 {hashlib.sha256(formula.read_bytes()).hexdigest()}"
+    return f"c formula {formula}, SHA-256 {digest(formula)}"
 
 
-def checked_by(words: Sequence[object], work: Path, formula: Path,
-               env: Optional[Dict[str, str]] = None) -> None:
-    """The command's first line names the formula that is checked."""
-    done = run(words, cwd=work, env=env)
-    lines = done.out.splitlines()
-    want((lines[:1], lines[-1:], done.err, done.status), ([first_line(formula)], [PROVED], "", 0),
-         f"the output with {words}")
+def want_proved(done: Ran, formula: Path) -> None:
+    """A check has the verdict, and its first line names the formula that is checked."""
+    assert (done.err, done.status) == ("", 0)
+    assert done.out.splitlines()[0] == first_line(formula)
+    assert done.out.splitlines()[-1] == PROVED
 
 
-def names_a_formula(work: Path) -> None:
-    """The record is checked against the named formula, and against no other."""
-    formula, here = generated("pigeons 5", work), work / "here"
+file_or_pipe = pytest.mark.parametrize("is_piped", [False, True], ids=["a file", "a pipe"])
+
+
+@file_or_pipe
+def test_the_formulas_digest(is_piped: bool, formula: Path) -> None:
+    """The record has the SHA-256 of the formula, as sha256sum writes it."""
+    record = record_of(formula, "-j", 1, is_piped=is_piped)
+    place = record / "formula.cnf" if is_piped else formula
+    assert (record / "formula.sha256").read_text() == f"{digest(formula)}  {place}\n"
+
+
+@file_or_pipe
+def test_another_formula(is_piped: bool, formula: Path) -> None:
+    """The record's check notices it."""
+    record = record_of(formula, "-j", 1, is_piped=is_piped)
+    check_again(record)
+    place = record / "formula.cnf" if is_piped else formula
+    place.write_text(place.read_text() + "c another one\n")
+    said = f"{place} isn't the formula of this record, or was changed since"
+    assert check(record) == refused(said)
+
+
+def move(record: Path) -> Path:
+    folder = record.parent / "another folder"
+    folder.mkdir()
+    return record.rename(folder / "it's moved")
+
+
+@pytest.mark.parametrize("words, is_piped, tested", named([
+    ("a file", "pigeons 5", False, None), ("a pipe", "pigeons 5", True, None),
+    ("a pipe, rounds", "random 180 3", True, IN_ROUNDS)]))
+def test_a_moved_record(words: str, is_piped: bool, tested: Hooks, tmp_path: Path) -> None:
+    """A record's names are relative to its folder, so the record can be checked anywhere, from any
+    folder, even by just the name of its script."""
+    record = move(record_of(generated(words, tmp_path), "-j", 2, tested=tested, is_piped=is_piped))
+    check_again(record)
+    done = run(["sh", "command"], cwd=record, env={**os.environ, "CDPATH": str(tmp_path)})
+    assert done.out.splitlines()[-1] == PROVED
+    assert done.status == 0
+
+
+@pytest.mark.parametrize("words, tested", named([("one round", "pigeons 5", None),
+                                                 ("rounds", "random 180 3", IN_ROUNDS)]))
+def test_another_formula_in_a_moved_record(words: str, tested: Hooks, tmp_path: Path) -> None:
+    record = move(record_of(generated(words, tmp_path), "-j", 2, tested=tested, is_piped=True))
+    place = written("p cnf 1 1\n1 0\n", record)
+    done = run(["sh", record / "command"], cwd=tmp_path)
+    assert done == refused(f"{place} isn't the formula of this record, or was changed since")
+
+
+@pytest.mark.parametrize("name, is_piped", [
+    ("formula.cnf", False), ("d/formula.cnf", True), ("d/round-1.stream-1", False),
+    ("d/formula.sha256", False)])
+def test_a_file_that_is_missing(name: str, is_piped: bool, formula: Path, tmp_path: Path) -> None:
+    """It is reported as missing."""
+    record, missing = record_of(formula, "-j", 1, is_piped=is_piped), tmp_path / name
+    missing.rename(tmp_path / "elsewhere")
+    for cwd in (tmp_path, Path("/")):
+        done = run(["sh", record / "command"], cwd=cwd)
+        assert done == refused(f"{missing} isn't there, or can't be read")
+
+
+@pytest.mark.parametrize("name", ["formula.cnf", "d/formula.sha256", "d/round-1.stream-1",
+                                  "d/round-1.sizes"])
+def test_a_pipe_in_place_of_a_file(name: str, record: Path, tmp_path: Path) -> None:
+    """Only regular files are read: nothing hangs."""
+    (tmp_path / name).unlink()
+    os.mkfifo(tmp_path / name)
+    assert check(record, limit=20) == refused(f"{tmp_path / name} isn't a regular file")
+
+
+@pytest.mark.parametrize("words", [[TRIM, "--core", "core"], [EXPLAIN]],
+                         ids=["lrup-trim", "lrup-explain"])
+def test_a_pipe_of_digests_for_tools(words: List[object], record: Path, formula: Path,
+                                     tmp_path: Path) -> None:
+    (record / "formula.sha256").unlink()
+    os.mkfifo(record / "formula.sha256")
+    done = run([*words, formula, "d"], cwd=tmp_path, limit=20)
+    assert done.status == 1
+    assert done.err.endswith(
+        "d/formula.sha256: has to be a regular file, since it is read more than once\n")
+
+
+def test_a_name_that_sha256sum_escapes(tmp_path: Path) -> None:
+    """A backslash and an LF are in it."""
+    formula = written(generated("pigeons 5", tmp_path).read_bytes(), tmp_path, "a\\ b\nc.cnf")
+    record = record_of(formula, "-j", 1)
+    check_again(record)
+    assert run(["sha256sum", "--quiet", "-c", "d/formula.sha256"], cwd=tmp_path).status == 0
+
+
+@pytest.mark.parametrize("name, shown", [
+    ("a\ns UNSATISFIABLE", "a?s UNSATISFIABLE"), ("a\033[31m\r\177b", "a?[31m??b"),
+    ("gr\u00f6\u00dfe", "gr\u00f6\u00dfe")])
+def test_the_first_line(name: str, shown: str, tmp_path: Path) -> None:
+    """It names the formula, whose name can't add a line."""
+    formula = written(generated("pigeons 5", tmp_path).read_bytes(), tmp_path, name)
+    lines = check(record_of(formula, "-j", 1)).out.splitlines()
+    assert lines[0] == first_line(formula).replace(name, shown)
+
+
+def test_the_check_finds_the_formula(record: Path, formula: Path) -> None:
+    want_proved(check(record), formula)
+
+
+def test_the_check_gets_the_formula(record: Path, formula: Path, tmp_path: Path) -> None:
+    """It has moved, and is named from each folder."""
+    here = tmp_path / "here"
     here.mkdir()
-    want(solve(["-j", 1, "--proofs", "d", formula], cwd=work).status, 20, "the status")
-    checked_by(["sh", "d/command"], work, formula)
     copy = formula.rename(here / "-copy;ran")
-    for words, cwd in ((("../d/command", copy.name), here),
-                       ((work / "d" / "command", copy), Path("/")),
-                       (("command", copy), work / "d")):
-        checked_by(["sh", *words], cwd, copy)
-    other = written("p cnf 1 1\n1 0\n", work, "other")
-    refused: List[Tuple[List[object], str]] = [
-        ([], f"{formula} isn't there, or can't be read"),
-        ([""], f"{work}/ isn't a regular file"),
-        (["none"], f"{work}/none isn't there, or can't be read"),
-        ([other], f"{other} isn't the formula of this record, or was changed since"),
-        (["--help"], f"{work}/--help isn't there, or can't be read")]
-    for arguments, said in refused:
-        want(run(["sh", "d/command", *arguments], cwd=work), Ran("", f"lrup-recheck: {said}\n", 1),
-             f"the message on {arguments}")
-    text = (work / "d" / "command").read_text()
+    want_proved(run(["sh", "../d/command", copy.name], cwd=here), copy)
+    want_proved(run(["sh", record / "command", copy], cwd="/"), copy)
+    want_proved(run(["sh", "command", copy], cwd=record), copy)
+
+
+@pytest.mark.parametrize("name, said", [
+    ("", "WORK/ isn't a regular file"), ("none", "WORK/none isn't there, or can't be read"),
+    ("other", "WORK/other isn't the formula of this record, or was changed since"),
+    ("--help", "WORK/--help isn't there, or can't be read")])
+def test_the_check_gets_another_formula(name: str, said: str, record: Path, formula: Path,
+                                        tmp_path: Path) -> None:
+    """The record is checked against the named formula, and against no other."""
+    written("p cnf 1 1\n1 0\n", tmp_path, "other")
+    assert check(record, name) == refused(said.replace("WORK", str(tmp_path)))
+
+
+@pytest.mark.parametrize("words", [["formula.cnf", "formula.cnf"], ["--serial", "formula.cnf"]],
+                         ids=" ".join)
+def test_the_check_gets_more_than_a_formula(words: List[str], record: Path) -> None:
+    done = check(record, *words)
+    assert done.err.startswith("usage: lrup-recheck [")
+    assert done.status == 2
+
+
+def test_a_truncated_command(record: Path, formula: Path) -> None:
+    """Its status isn't 0, which would be a verdict."""
+    text = (record / "command").read_text()
     for length in range(2, len(text) - 1, 61):
-        cut = written(text[:length], work / "d", "cut")
-        want(run(["sh", cut, copy], cwd=work).status != 0, True,
-             f"whether {length} bytes of the command end with another status than 0")
-    for more in ((copy, copy), ("--serial", copy)):
-        done = run(["sh", "d/command", *more], cwd=work)
-        want((done.err.split(" [")[0], done.status), ("usage: lrup-recheck", 2),
-             f"the message on {more}")
+        (record / "command").write_text(text[:length])
+        assert check(record, formula).status != 0, f"{length} bytes"
 
 
-def moved_together(assumes: bool, work: Path) -> None:
-    """Paths relative to the record come first: other files are now where the formula and the
-    assumptions were."""
-    project = work / "project"
-    written(generated("pigeons 5", work).read_bytes(), project, "f.cnf")
+@pytest.fixture
+def project(tmp_path: Path) -> Path:
+    """A folder with a formula and assumptions, and a folder for records."""
+    project = tmp_path / "project"
+    written(generated("pigeons 5", tmp_path).read_bytes(), project, "f.cnf")
     written("1 0\n", project / "cubes", "cube")
-    words = ["-j", 1, "--proofs", "records/d", *["--assume", "cubes/cube"] * assumes, "f.cnf"]
     (project / "records").mkdir()
-    want(solve(words, cwd=project).status, 20, "the status")
-    moved = project.rename(work / "it's moved")
+    return project
+
+
+def move_project(project: Path) -> Path:
+    """Moves everything; other files are now where the formula and the assumptions were."""
+    moved = project.rename(project.parent / "it's moved")
     written("p cnf 1 1\n1 0\n", project, "f.cnf")
     written("2 0\n", project / "cubes", "cube")
+    return moved
+
+
+def test_a_record_that_has_moved_with_its_formula(project: Path) -> None:
+    """Paths relative to the record come first."""
+    want_answer(solve(["-j", 1, "--proofs", "records/d", "f.cnf"], cwd=project), 20)
+    moved = move_project(project)
+    want_proved(run(["sh", moved / "records" / "d" / "command"], cwd="/"), moved / "f.cnf")
+
+
+def move_assuming(project: Path) -> Path:
+    """Keeps a record under assumptions, and moves everything."""
+    words = ["-j", 1, "--proofs", "records/d", "--assume", "cubes/cube", "f.cnf"]
+    want_answer(solve(words, cwd=project), 20, verdict=PROVED_UNDER)
+    return move_project(project)
+
+
+def test_a_record_that_has_moved_with_its_assumptions(project: Path) -> None:
+    moved = move_assuming(project)
     done = run(["sh", moved / "records" / "d" / "command"], cwd="/")
-    lines = done.out.splitlines()
-    want((lines[0], lines[-1], done.status),
-         (first_line(moved / "f.cnf"), PROVED_UNDER if assumes else PROVED, 8 if assumes else 0),
-         f"the output, with {done.err}")
-    if assumes:
-        want(lines[1], first_line(moved / "cubes" / "cube").replace("formula", "assumptions"),
-             "the second line")
-        (moved / "cubes" / "cube").write_text("-1 0\n")
-        said = f"{moved}/cubes/cube isn't the assumptions of this record, or was changed since"
-        done = run(["sh", moved / "records" / "d" / "command"])
-        want((done.err, done.status), (f"lrup-recheck: {said}\n", 1),
-             "the message on other assumptions")
+    assert (done.err, done.status) == ("", 8)
+    formula, cube, *_, verdict = done.out.splitlines()
+    assert formula == first_line(moved / "f.cnf")
+    assert cube == f"c assumptions {moved}/cubes/cube, SHA-256 {digest(moved / 'cubes' / 'cube')}"
+    assert verdict == PROVED_UNDER
 
 
-def only_with(tools: Sequence[str], work: Path) -> Dict[str, str]:
-    """A PATH that has only these programs, if they are installed, and the ones that scripts may
-    call."""
-    place = work / "programs"
-    place.mkdir()
-    for name in [*tools, "sh", "tr", "cat", "head", "find", "mktemp", "mkfifo", "ln", "rm", "perl"]:
-        found = shutil.which(name)
-        if found:
-            os.symlink(os.path.realpath(found), place / name)
-    return {**os.environ, "PATH": str(place)}
+def test_other_assumptions(project: Path) -> None:
+    moved = move_assuming(project)
+    cube = written("-1 0\n", moved / "cubes", "cube")
+    said = f"{cube} isn't the assumptions of this record, or was changed since"
+    assert run(["sh", moved / "records" / "d" / "command"]) == refused(said)
 
 
-def digests_by(tool: str, work: Path) -> None:
-    """Whichever tool computes SHA-256s, the formula is checked; without such a tool, nothing is
-    checked."""
-    if tool:
-        needs(tool)
-    formula, path = generated("pigeons 5", work), only_with([tool] if tool else [], work)
-    want(solve(["-j", 1, "--proofs", "d", formula], cwd=work).status, 20, "the status")
-    none = "lrup-recheck: no sha256sum, shasum or openssl on the PATH to find SHA-256s\n"
-    if not tool:
-        return want(run(["sh", "d/command"], cwd=work, env=path), Ran("", none, 1), "the messages")
-    checked_by(["sh", "d/command"], work, formula, env=path)
+@pytest.mark.parametrize("tool", ["sha256sum", "shasum", "openssl"])
+def test_digests_by_another_tool(tool: str, record: Path, formula: Path, tmp_path: Path) -> None:
+    """Whichever tool computes SHA-256s, another formula is noticed."""
+    needs(tool)
+    only_it = only_with([tool], tmp_path)
+    want_proved(check(record, env=only_it), formula)
     formula.write_text(formula.read_text() + "c another one\n")
-    said = f"lrup-recheck: {formula} isn't the formula of this record, or was changed since\n"
-    want(run(["sh", "d/command"], cwd=work, env=path), Ran("", said, 1),
-         "the message on another formula")
+    said = f"{formula} isn't the formula of this record, or was changed since"
+    assert check(record, env=only_it) == refused(said)
 
 
-PACKERS = {"xz": "xz", "gz": "gzip", "zst": "zstd"}
+def test_digests_by_no_tool(record: Path, tmp_path: Path) -> None:
+    """Nothing is checked."""
+    said = "no sha256sum, shasum or openssl on the PATH to find SHA-256s"
+    assert check(record, env=only_with([], tmp_path)) == refused(said)
 
 
-def packed(forms: Sequence[str], tested: Optional[Dict[str, object]], work: Path) -> None:
-    """Streams are unpacked while they are read, each according to its form. No file is left, and no
-    process."""
-    for form in forms:
-        needs(PACKERS[form])
-    files, mark = work / "temporary", marked(work)
-    files.mkdir()
-    formula = generated("random 150 3", work)
-    want(solve(["-j", 2, "--proofs", "d", formula], tested=tested, cwd=work).status,
-         20, "the status")
-    streams = sorted((work / "d").glob("round-*.stream-*"))
-    for number, path in enumerate(streams):
-        if number % (len(forms) + 1) < len(forms):
-            form = forms[number % (len(forms) + 1)]
-            want(run([PACKERS[form], "-q", *["--rm"] * (form == "zst"), path]).status, 0,
-                 "the packer's status")
-            want((path.exists(), path.with_name(f"{path.name}.{form}").exists()), (False, True),
-                 "whether it is compressed")
-    check_again(work / "d", {"TMPDIR": str(files)})
-    want(os.listdir(files), [], "the files left")
-    none_left(mark)
-    read_by_tools(formula, work)
-    first = streams[0].with_name(f"{streams[0].name}.{forms[0]}")
-    said = f"lrup-recheck: no {PACKERS[forms[0]]} on the PATH for {first}\n"
-    found = run(["sh", "d/command"], cwd=work, env=only_with(["sha256sum"], work))
-    want((found.err, found.status), (said, 1), "the message if it can't be unpacked")
-    first.write_bytes(first.read_bytes()[:first.stat().st_size // 2])
-    found = run([LRUP_RECHECK, "--lrupd", PROGRAM, "--tries=20000", "d"], cwd=work,   # a second
-                env={**os.environ, "TMPDIR": str(files)})
-    want((found.err != "", os.listdir(files)), (True, []),
-         f"whether there is a message on the truncated one, in {found.out}")
-    none_left(mark)
-    for tool, words in ((TRIM, ("--core", "another")), (EXPLAIN, ())):
-        found = run([tool, *words, formula, "d"], cwd=work)
-        said = f"{tool.name}: d/{first.name}: {PACKERS[forms[0]]} can't unpack it\n"
-        want((found.err.endswith(said), found.status, (work / "another").exists()),
-             (True, 1, False), f"the message: {found.err}")
+# Where lrup-recheck and lrupd are.
 
 
-def read_by_tools(formula: Path, work: Path) -> None:
-    """The tools read the record in d as if it weren't compressed."""
-    names = sorted(os.listdir(work / "d"))
-    want(run([TRIM, "--lrat", "unpacked.lrat", formula, "d"], cwd=work).status, 0,
-         "the status of lrup-trim")
-    want(lrat_fault(read_formula(formula), (work / "unpacked.lrat").read_text()), "",
-         "the LRAT checker's message")
-    want(run([EXPLAIN, formula, "d"], cwd=work), Ran("no line is bad\n", "", 0),
-         "lrup-explain's output")
-    done = run([LRUP_RECHECK, "--lrupd", PROGRAM, "d"], cwd=work)
-    want((done.out.splitlines()[-1:], done.err, done.status), ([PROVED], "", 0),
-         "lrup-recheck's output")
-    want(sorted(os.listdir(work / "d")), names, "the files")
+class Moved(NamedTuple):
+    """A record with several rounds, its formula, and a folder with lrupd and lrup-recheck. The
+    record's command names this lrup-recheck, and an lrupd that is gone."""
+    record: Path
+    formula: Path
+    programs: Path
 
 
-def packed_and_closed(closing: str, work: Path) -> None:
-    """Streams are unpacked even if a standard stream is closed."""
-    needs("xz")
-    formula = generated("pigeons 5", work)
-    want(solve(["-j", 1, "--proofs", "d", formula], cwd=work).status, 20, "the status")
-    want(run(["xz", work / "d" / "round-1.stream-1"]).status, 0, "the packer's status")
-    for tool, words in ((TRIM, ("--lrat", "proof.lrat")), (EXPLAIN, ())):
-        done = run(["sh", "-c", f'exec "$@" {closing}', "sh", tool, *words, formula, "d"],
-                   cwd=work)
-        want((done.err, done.status), ("", 0), f"the answer of {tool.name} {closing}")
-    want(lrat_fault(read_formula(formula), (work / "proof.lrat").read_text()), "",
-         "the LRAT checker's message")
-
-
-def packed_and_interrupted(number: int, work: Path) -> None:
-    """If the check is interrupted, the unpacking programs end, too, even if lrupd hasn't opened
-    their pipes yet."""
-    files, slow, mark = work / "temporary", work / "slow", marked(work)
-    files.mkdir()
-    needs("xz")
-    lrupd = before_lrupd(f"[ ! -e {slow} ] || {{ touch {work}/begun; exec sleep 100; }}", work)
-    want(solve(["--lrupd", lrupd, "-j", 2, "--proofs", "d", generated("random 180 3", work)],
-               tested=SMALL, cwd=work).status,
-         20, "the status")
-    want(run(["xz", *(work / "d").glob("round-*.stream-*")]).status, 0, "the packer's status")
-    slow.touch()
-    with started(["sh", "d/command"], cwd=work, env={**os.environ, "TMPDIR": str(files)},
-                 stdout=subprocess.DEVNULL) as checking:
-        until("it is checked", (work / "begun").exists)
-        checking.send_signal(number)
-        want(checking.wait(20), 143, "the status")
-    want(os.listdir(files), [], "the files left")
-    none_left(mark)
-
-
-def programs_moved(work: Path) -> None:
-    """If lrup-recheck or lrupd has moved, the one on the PATH is used. Without lrup-recheck, the
-    script prints a command that checks a copy of the record."""
-    lrupd = work / "bin" / "lrupd"
+@pytest.fixture
+def moved(tmp_path: Path) -> Moved:
+    lrupd, programs = tmp_path / "bin" / "lrupd", tmp_path / "elsewhere"
     lrupd.parent.mkdir()
     shutil.copy(PROGRAM, lrupd)
-    formula = generated("random 180 3", work)
-    want(solve(["--lrupd", lrupd, "-j", 2, "--proofs", "d", formula], tested=SMALL,
-               cwd=work).status, 20, "the status")
-    elsewhere, command, path = work / "elsewhere", work / "d" / "command", only_with(
-        ["sha256sum"], work)
-    lrupd.parent.rename(elsewhere)
-    recheck = re.search(r"^recheck=(.*)", command.read_text(), re.M)
+    formula = generated("random 180 3", tmp_path)
+    record = record_of(formula, "--lrupd", lrupd, "-j", 2, tested=IN_ROUNDS)
+    lrupd.parent.rename(programs)
+    shutil.copy(LRUP_RECHECK, programs)
+    text = (record / "command").read_text()
+    recheck = re.search(r"^recheck=(.*)", text, re.M)
     assert recheck
-    command.write_text(command.read_text().replace(recheck[1], str(elsewhere / "lrup-recheck")))
-    shutil.copy(LRUP_RECHECK, elsewhere)
-    checked_by(["sh", "d/command"], work, formula, env=path)       # the lrupd beside lrup-recheck
-    (elsewhere / "lrup-recheck").unlink()
-    found = run(["sh", "d/command"], cwd=work, env=path)
-    want((found.out, found.err.split(",")[0], found.status), ("", "no lrup-recheck", 1),
-         "the messages")
-    by_hand = found.err.splitlines()[-1].replace("FORMULA", shlex.quote(str(formula)))
-    shutil.copytree(work / "d", work / "a copy")
-    with_lrupd = {**os.environ, "PATH": f"{elsewhere}:{os.environ['PATH']}"}
-    done = run(["sh", "-c", by_hand], cwd=work / "a copy", env=with_lrupd)
-    want((done.out, done.err, done.status), ((work / "d" / "report").read_text(), "", 0),
-         f"the output of {by_hand}")
-    shutil.copy(LRUP_RECHECK, work / "programs")
-    said = "lrup-recheck: lrupd: no such program; --lrupd names another\n"
-    want(run(["sh", "d/command"], cwd=work, env=path), Ran("", said, 127), "the messages")
-    checked_by(["sh", "d/command"], work, formula,
-               env={**os.environ, "PATH": f"{work}/programs:{elsewhere}:{os.environ['PATH']}"})
+    (record / "command").write_text(text.replace(recheck[1], str(programs / "lrup-recheck")))
+    return Moved(record, formula, programs)
 
 
-def about(engines: int, given: str, tested: Optional[Dict[str, object]], work: Path) -> None:
-    """Versions, arguments, place and time of the run; the SHA-256 of lrupd, and of each file except
-    the list and `about`."""
+def on_the_path(*folders: Path) -> Dict[str, str]:
+    return {**os.environ, "PATH": ":".join([*map(str, folders), os.environ["PATH"]])}
+
+
+def test_the_lrupd_beside_lrup_recheck(moved: Moved, tmp_path: Path) -> None:
+    want_proved(check(moved.record, env=only_with(["sha256sum"], tmp_path)), moved.formula)
+
+
+def test_both_on_the_path(moved: Moved, tmp_path: Path) -> None:
+    """They are in different folders."""
+    other = tmp_path / "other"
+    other.mkdir()
+    (moved.programs / "lrup-recheck").rename(other / "lrup-recheck")
+    want_proved(check(moved.record, env=on_the_path(other, moved.programs)), moved.formula)
+
+
+def test_no_lrupd(moved: Moved, tmp_path: Path) -> None:
+    (moved.programs / "lrupd").unlink()
+    done = check(moved.record, env=only_with(["sha256sum"], tmp_path))
+    assert done == Ran("", "lrup-recheck: lrupd: no such program; --lrupd names another\n", 127)
+
+
+def test_no_lrup_recheck(moved: Moved, tmp_path: Path) -> None:
+    """The script prints a command that checks a copy of the record."""
+    (moved.programs / "lrup-recheck").unlink()
+    done = check(moved.record, env=only_with(["sha256sum"], tmp_path))
+    assert (done.out, done.status) == ("", 1)
+    assert done.err.startswith("no lrup-recheck,")
+    by_hand = done.err.splitlines()[-1].replace("FORMULA", shlex.quote(str(moved.formula)))
+    copy = shutil.copytree(moved.record, tmp_path / "a copy")
+    checked = run(["sh", "-c", by_hand], cwd=copy, env=on_the_path(moved.programs))
+    assert checked == Ran((moved.record / "report").read_text(), "", 0)
+
+
+# What a record says of its run.
+
+
+each_about = pytest.mark.parametrize("engines, is_piped, tested", named([
+    ("one engine", 1, False, None), ("a pipe", 2, True, None), ("rounds", 2, False, IN_ROUNDS)]))
+
+
+def about(engines: int, is_piped: bool, tested: Hooks, work: Path) -> Tuple[Path, str]:
+    """A formula whose name has a space, and what the record's file `about` has."""
     formula = written(generated("random 180 3", work).read_bytes(), work, "a formula")
-    words = ["-j", engines, "--proofs", "d", *([] if given else ["a formula"])]
-    want(solve(words, tested=tested, cwd=work,
-               given=formula.read_text() if given else None).status, 20, "the status")
-    text, _, digests = (work / "d" / "about").read_text().partition("\n\n")
-    found = dict(line.split(": ", 1) for line in text.splitlines())
-    want(list(found), ["date", "words", "folder", "programs", "kit", "machine", "verdict",
-                       "record"], "the fields")
-    then = time.mktime(time.strptime(found["date"], "%Y-%m-%d %H:%M:%S UTC")) - time.timezone
-    want(abs(time.time() - then) < 60, True, f"whether {found['date']} is now")
-    want((found["words"].endswith("--proofs d" if given else "--proofs d 'a formula'"),
-          found["folder"], found["verdict"]),
-         (True, str(work), PROVED), f"the run's fields: {text}")
+    record = record_of(formula, "-j", engines, tested=tested, is_piped=is_piped)
+    return formula, (record / "about").read_text()
+
+
+@each_about
+def test_the_fields_of_about(engines: int, is_piped: bool, tested: Hooks, tmp_path: Path) -> None:
+    """Time, arguments, place, versions and result of the run."""
+    formula, text = about(engines, is_piped, tested, tmp_path)
+    fields = dict(line.split(": ", 1) for line in text.partition("\n\n")[0].splitlines())
+    assert list(fields) == ["date", "words", "folder", "programs", "kit", "machine", "verdict",
+                            "record"]
+    then = time.mktime(time.strptime(fields["date"], "%Y-%m-%d %H:%M:%S UTC")) - time.timezone
+    assert abs(time.time() - then) < 60
+    assert fields["words"].endswith("--proofs d" if is_piped else f"--proofs d '{formula}'")
+    assert fields["folder"] == str(tmp_path)
+    assert fields["verdict"] == PROVED
     version = (ROOT / "VERSION").read_text().strip()
-    want(found["programs"].startswith(f"lrupd {version}; lrup-solve {version}, with CaDiCaL "),
-         True, found["programs"])
-    want(f"`{found['kit']}`" in (ROOT / "README.md").read_text(), True, found["kit"])
-    files = {path.name: path for path in (work / "d").iterdir()
+    assert fields["programs"].startswith(f"lrupd {version}; lrup-solve {version}, with CaDiCaL ")
+    assert f"`{fields['kit']}`" in (ROOT / "README.md").read_text()
+    assert fields["record"].split(" round")[0] == str(number_of_rounds(tmp_path / "d"))
+
+
+@each_about
+def test_the_digests_of_about(engines: int, is_piped: bool, tested: Hooks, tmp_path: Path) -> None:
+    """The SHA-256 of lrupd, and of each file except the list and `about`."""
+    _, text = about(engines, is_piped, tested, tmp_path)
+    files = {path.name: path for path in (tmp_path / "d").iterdir()
              if path.name not in ("about", "files")}
-    rounds = len(list((work / "d").glob("round-*.sizes")))
-    want(found["record"].split(" round")[0], str(rounds), "how many rounds there are")
-    want(rounds > 1, tested is not None, "whether there are several")
-    files[PROGRAM] = Path(PROGRAM)
-    want({line[66:]: line[:66] for line in digests.splitlines()},
-         {name: hashlib.sha256(path.read_bytes()).hexdigest() + "  "
-          for name, path in files.items()}, "the digests")
+    wanted = {name: digest(path) for name, path in {**files, PROGRAM: Path(PROGRAM)}.items()}
+    lines = [line.split("  ", 1) for line in text.partition("\n\n")[2].splitlines()]
+    assert {name: found for found, name in lines} == wanted
 
 
-def first_line_of(name: str, shown: str, work: Path) -> None:
-    """A name can't add a line."""
-    formula = written(generated("pigeons 5", work).read_bytes(), work, name)
-    want(solve(["-j", 1, "--proofs", "d", formula], cwd=work).status, 20, "the status")
-    wanted = first_line(formula).replace(name, shown)
-    want(run(["sh", "d/command"], cwd=work).out.splitlines()[0], wanted, "the first line")
+# Packed records.
 
 
-# Strange names and files.
+class Packed(NamedTuple):
+    """A record, of which some streams are packed, and its formula."""
+    record: Path
+    formula: Path
+    first: Path     # its first stream
+
+    def packer(self) -> str:
+        return PACKERS[self.first.suffix[1:]]
 
 
-def strange_names(names: Tuple[str, str], assumes: bool, tested: Optional[Dict[str, object]],
-                  work: Path) -> None:
-    """No shell runs a part of a name: neither in the record's command, nor in the output of -v, nor
-    in a solver's command. A program with such a name would leave a mark."""
-    mark, programs, folder = work / "mark", work / "programs", work / names[0].replace("/", "")
-    written("#!/bin/sh\n: > \"$MARK\"\n", programs, "ran").chmod(0o755)
-    folder.mkdir()
-    formula, cube = (written(example("bmc.cnf").read_text(), folder, names[0]),
-                     written("0\n", folder, names[1]))
-    more = {"MARK": str(mark), "PATH": f"{programs}:{os.environ['PATH']}"}
-    words: List[object] = ["-v", "-j", 2, "--proofs", "kept"]
-    words += (["--assume", f"./{cube.name}"] if assumes
-              else ["--solver", "cadical -q %formula %proof"] if shutil.which("cadical") else [])
-    answer = solve([*words, "--", formula.name], tested=tested, env_more=more, cwd=folder)
-    want((answer.status, answer.answers, answer.said), (20, [PROVED], ""),
-         f"the answer of\n{answer.out[-3000:]}")
-    want(len(list((folder / "kept").glob("round-*.sizes"))) > 1, tested is not None,
-         "whether there are several rounds")
-    check_again(folder / "kept", more)
-    shown = [line for line in answer.comments if " --tries 1000000 " in line
-             and "lrup-" not in line]
-    want(len(shown), 1, f"how many commands are shown in\n{answer.out[-3000:]}")
-    done = run(["sh", "-c", shown[0]], cwd=folder, env={**os.environ, **more})
-    if "\n" not in "".join(names) and "".join(names).isascii():       # other bytes are shown as ?
-        want(done.out.splitlines()[-1:], ["s UNKNOWN" if tested else PROVED],
-             f"the verdict, with {done.err}")
-    want(mark.exists(), False, "whether a part of a name was run as a command")
+@pytest.fixture(params=named((f"{' and '.join(forms)}{', rounds' * bool(tested)}", (forms, tested))
+                             for forms in (["xz"], ["gz"], ["zst"], ["xz", "gz", "zst"])
+                             for tested in (None, IN_MANY_ROUNDS)))
+def packed(mark: str, request: pytest.FixtureRequest, tmp_path: Path) -> Packed:
+    """Streams are packed in these forms in turn; then one isn't."""
+    forms, tested = request.param
+    formula = generated("random 150 3", tmp_path)
+    record = record_of(formula, "-j", 2, tested=tested)
+    streams = sorted(record.glob("round-*.stream-*"))
+    for number, path in enumerate(streams):
+        if number % (len(forms) + 1) < len(forms):
+            pack(path, forms[number % (len(forms) + 1)])
+    return Packed(record, formula, streams[0].with_name(f"{streams[0].name}.{forms[0]}"))
+
+
+def test_a_packed_record_is_checked(packed: Packed, mark: str, temporary: Path) -> None:
+    """Streams are unpacked while they are read. No file is left, and no process."""
+    check_again(packed.record, {"TMPDIR": str(temporary)})
+    assert os.listdir(temporary) == []
+    none_left(mark)
+
+
+def test_tools_read_a_packed_record(packed: Packed, tmp_path: Path) -> None:
+    names = sorted(os.listdir(packed.record))
+    assert run([TRIM, "--lrat", "lrat", packed.formula, "d"], cwd=tmp_path).status == 0
+    assert lrat_fault(read_formula(packed.formula), (tmp_path / "lrat").read_text()) == ""
+    explained = run([EXPLAIN, packed.formula, "d"], cwd=tmp_path)
+    assert explained == Ran("no line is bad\n", "", 0)
+    want_proved(run([LRUP_RECHECK, "--lrupd", PROGRAM, "d"], cwd=tmp_path), packed.formula)
+    assert sorted(os.listdir(packed.record)) == names
+
+
+def test_a_packed_record_without_the_unpacking_program(packed: Packed, tmp_path: Path) -> None:
+    done = check(packed.record, env=only_with(["sha256sum"], tmp_path))
+    assert done.err == f"lrup-recheck: no {packed.packer()} on the PATH for {packed.first}\n"
+    assert done.status == 1
+
+
+def halve(path: Path) -> None:
+    path.write_bytes(path.read_bytes()[:path.stat().st_size // 2])
+
+
+def test_a_truncated_packed_stream(packed: Packed, mark: str, temporary: Path) -> None:
+    """There is a message, and nothing is left."""
+    halve(packed.first)
+    done = run([LRUP_RECHECK, "--lrupd", PROGRAM, "--tries=20000", "d"],     # waits for a second
+               cwd=packed.record.parent, env=with_temporary(temporary))
+    assert done.err != ""
+    assert os.listdir(temporary) == []
+    none_left(mark)
+
+
+@pytest.mark.parametrize("tool, words", [(TRIM, ["--core", "core"]), (EXPLAIN, [])],
+                         ids=["lrup-trim", "lrup-explain"])
+def test_tools_refuse_a_truncated_packed_stream(tool: Path, words: List[str], packed: Packed,
+                                                tmp_path: Path) -> None:
+    halve(packed.first)
+    done = run([tool, *words, packed.formula, "d"], cwd=tmp_path)
+    assert done.err.endswith(
+        f"{tool.name}: d/{packed.first.name}: {packed.packer()} can't unpack it\n")
+    assert done.status == 1
+    assert not (tmp_path / "core").exists()
+
+
+@pytest.mark.parametrize("closing", ["<&-", "<&- 2>&-"])
+def test_streams_are_unpacked_though_a_standard_stream_is_closed(
+        closing: str, record: Path, formula: Path, tmp_path: Path) -> None:
+    pack(record / "round-1.stream-1", "xz")
+    tools: List[List[object]] = [[TRIM, "--lrat", "lrat"], [EXPLAIN]]
+    for words in tools:
+        done = run(["sh", "-c", f'exec "$@" {closing}', "sh", *words, formula, "d"], cwd=tmp_path)
+        assert (done.err, done.status) == ("", 0), words
+    assert lrat_fault(read_formula(formula), (tmp_path / "lrat").read_text()) == ""
+
+
+# Several checks, and checks that are ended.
+
+
+def test_two_checks_at_a_time(tmp_path: Path) -> None:
+    """By a user who can't write into the record."""
+    shutil.copy(PROGRAM, tmp_path / "lrupd")
+    record = record_of(generated("random 180 3", tmp_path), "--lrupd", "./lrupd", "-j", 2,
+                       tested=IN_ROUNDS)
+    record.chmod(0o555)
+    check_again(record)
+    done = by_another(["sh", "-c", "sh d/command > /dev/null & sh d/command && wait \"$!\""],
+                      tmp_path)
+    assert (done.err, done.status) == ("", 0)
+    assert done.out.splitlines()[-1] == PROVED
+
+
+@pytest.fixture
+def hanging(mark: str, tmp_path: Path) -> Path:
+    """A record with several rounds. Its lrupd hangs as long as the file `slow` is there, once it
+    has made the file `begun`."""
+    slow, begun = tmp_path / "slow", tmp_path / "begun"
+    lrupd = before_lrupd(f"[ ! -e {slow} ] || {{ touch {begun}; exec sleep 100; }}", tmp_path)
+    record = record_of(generated("random 180 3", tmp_path), "--lrupd", lrupd, "-j", 2,
+                       tested=IN_ROUNDS)
+    slow.touch()
+    return record
+
+
+def interrupt(number: signal.Signals, record: Path, temporary: Path) -> None:
+    """Sends this signal to a check while its lrupd hangs. The check ends, and leaves nothing."""
+    with started(["sh", "d/command"], cwd=record.parent, env=with_temporary(temporary),
+                 stdout=subprocess.DEVNULL) as checking:
+        until("lrupd runs", (record.parent / "begun").exists)
+        assert len(os.listdir(temporary)) == 1
+        checking.send_signal(number)
+        assert checking.wait(20) == 143
+    assert os.listdir(temporary) == []
+
+
+def each_signal(*numbers: signal.Signals) -> pytest.MarkDecorator:
+    return pytest.mark.parametrize("number", numbers, ids=lambda number: str(number.name))
+
+
+@each_signal(signal.SIGTERM, signal.SIGINT, signal.SIGHUP)
+def test_a_check_that_gets_a_signal(number: signal.Signals, hanging: Path, mark: str,
+                                    temporary: Path, tmp_path: Path) -> None:
+    """It ends with its lrupd, and can be repeated."""
+    interrupt(number, hanging, temporary)
+    none_left(mark)
+    (tmp_path / "slow").unlink()
+    check_again(hanging, {"TMPDIR": str(temporary)})
+
+
+@each_signal(signal.SIGTERM, signal.SIGINT)
+def test_a_signal_while_streams_are_unpacked(number: signal.Signals, hanging: Path, mark: str,
+                                             temporary: Path) -> None:
+    """The unpacking programs end, too, even if lrupd hasn't opened their pipes yet."""
+    for stream in hanging.glob("round-*.stream-*"):
+        pack(stream, "xz")
+    interrupt(number, hanging, temporary)
+    none_left(mark)
+
+
+@pytest.mark.parametrize("line", named([
+    ("a program that unpacks", r'^ *unpack "\$k" &$'), ("lrupd", r'^ *"\$lrupd" .* &$')]))
+def test_a_signal_right_after_a_program_is_started(line: str, hanging: Path, mark: str,
+                                                   temporary: Path, tmp_path: Path) -> None:
+    """It ends this program, too, though nothing else has happened since."""
+    for stream in hanging.glob("round-1.stream-*"):
+        pack(stream, "xz")
+    text, count = re.subn(line, r"\g<0> kill -TERM $$", LRUP_RECHECK.read_text(), flags=re.M)
+    assert count == 1
+    done = run(["sh", written(text, tmp_path, "edited"), "--lrupd", tmp_path / "lrupd", hanging],
+               env=with_temporary(temporary), limit=20)
+    assert done.status == 143, done.err
+    assert os.listdir(temporary) == []
+    none_left(mark)
+
+
+def test_a_check_that_nobody_reads(temporary: Path, tmp_path: Path) -> None:
+    """Nothing is left."""
+    record_of(generated("random 180 3", tmp_path), "-j", 2, tested=IN_ROUNDS)
+    run(["sh", "-c", "{ sleep 0.5; sh d/command; } | true"], cwd=tmp_path,
+        env=with_temporary(temporary))
+    assert os.listdir(temporary) == []
+
+
+def test_temporary_files_where_others_may_write(record: Path, temporary: Path) -> None:
+    temporary.chmod(0o777)
+    said = f"{temporary}: others may write there: choose another TMPDIR"
+    assert check(record, env=with_temporary(temporary)) == refused(said)
+    assert os.listdir(temporary) == []
+
+
+# Strange names.
 
 
 STRANGE = [("$(ran).cnf", "FORMULA;.cube"), ("`ran`;ran;", "ASSUME "), ("-$(ran)", "-x"),
@@ -537,189 +788,151 @@ STRANGE = [("$(ran).cnf", "FORMULA;.cube"), ("`ran`;ran;", "ASSUME "), ("-$(ran)
            ("'$(ran)'", "';ran;'"), (os.fsdecode(b"\xe9;ran;"), os.fsdecode(b"$(ran)\xe9"))]
 
 
-def strange_outputs(core: str, lrat: str, name: str, assumes: bool, work: Path) -> None:
-    """Correct outputs are kept, whatever names they and the formula have."""
-    formula, cube = (written(generated("pigeons 5", work).read_bytes(), work, name),
-                     written("1 0\n", work, f"cube of {name}"))
-    words = ["-j", 1, *["--assume", cube.name] * assumes, "--", name]
-    verdict = PROVED_UNDER if assumes else PROVED
-    answer = kept(words, formula, work, verdict=verdict, names=(core, lrat))
-    commands = [found[1] for found in (re.search(r": \d+ bytes of \d+: (lrupd .*)", line)
-                                   for line in answer.comments if ": lrupd's verdict: " not in line)
-            if found]
-    want(len(commands), 1, "the number of printed commands")
-    if (core + lrat + name).isprintable() and (core + lrat + name).isascii():
-        done = run(
-            ["sh", "-c", f"lrupd() {{ {shlex.quote(PROGRAM)} \"$@\"; }}; {commands[0]}"], cwd=work)
-        want((done.out.splitlines()[-1:], done.err), ([verdict], ""),
-             "lrupd's answer to that command")
+@pytest.mark.parametrize("tested", [None, IN_MANY_ROUNDS], ids=["one round", "rounds"])
+@pytest.mark.parametrize("assumes", [False, True], ids=["a solver", "assumptions"])
+@pytest.mark.parametrize("names", STRANGE, ids=repr)
+def test_no_shell_runs_a_part_of_a_name(names: Tuple[str, str], assumes: bool, tested: Hooks,
+                                        tmp_path: Path) -> None:
+    """Neither in the record's command, nor in the output of -v, nor in a solver's command. A
+    program with such a name would leave a mark."""
+    mark, programs = tmp_path / "mark", tmp_path / "programs"
+    written("#!/bin/sh\n: > \"$MARK\"\n", programs, "ran").chmod(0o755)
+    more = {"MARK": str(mark), "PATH": f"{programs}:{os.environ['PATH']}"}
+    folder = tmp_path / names[0]
+    formula = written(example("bmc.cnf").read_text(), folder, names[0])
+    cube = written("0\n", folder, names[1])
+    if not assumes:
+        needs("cadical")
+    words = (["--assume", f"./{cube.name}"] if assumes
+             else ["--solver", "cadical -q %formula %proof"])
+    answer = solve(["-v", "-j", 2, "--proofs", "kept", *words, "--", formula.name], tested=tested,
+                   env_more=more, cwd=folder)
+    want_answer(answer, 20)
+    assert (number_of_rounds(folder / "kept") > 1) == bool(tested)
+    check_again(folder / "kept", more)
+    shown, = [line for line in answer.comments
+              if " --tries 1000000 " in line and "lrup-" not in line]
+    done = run(["sh", "-c", shown], cwd=folder, env={**os.environ, **more})
+    if "\n" not in "".join(names) and "".join(names).isascii():     # other bytes are shown as ?
+        assert done.out.splitlines()[-1:] == ["s UNKNOWN" if tested else PROVED], done.err
+    assert not mark.exists()
 
 
+# A core, LRAT text, and a formula.
 OUTPUTS = [("-.core", "-.lrat", "-f"), ("a\ncore", "an\nlrat", "a\nformula"),
            (" x --lines 0 --room 0 y", "x --lines 0 --room 0 y", " --lines 0"),
            (os.fsdecode(b"\xe9core"), os.fsdecode(b"\xffl rat"), os.fsdecode(b"\xc0\x80 f")),
            ("it's", "$(ran)", "a;b"),
            ("c: 1 bytes of 2: lrupd --lines 1", ": lrupd --lines 0 --room 0 x", "core")]
+each_output = pytest.mark.parametrize("core, lrat, name", named(
+    (repr(core), core, lrat, name) for core, lrat, name in OUTPUTS))
 
 
-def checked_in_rounds(first: str, core: str, lrat: str, name: str, work: Path) -> None:
-    """The outputs are checked in rounds if lrup-trim says that no row suffices, or says nothing."""
+@each_output
+@pytest.mark.parametrize("assumes", [False, True], ids=["no assumptions", "assumptions"])
+def test_strange_names_of_outputs(core: str, lrat: str, name: str, assumes: bool,
+                                  tmp_path: Path) -> None:
+    """Correct outputs are kept, whatever names they and the formula have. lrupd accepts the LRAT
+    text by the printed command."""
+    formula = written(generated("pigeons 5", tmp_path).read_bytes(), tmp_path, name)
+    cube = written("1 0\n", tmp_path, f"cube of {name}")
+    verdict = PROVED_UNDER if assumes else PROVED
+    answer = keep_outputs(["-j", 1, *["--assume", cube.name] * assumes, "--", name], formula,
+                          verdict=verdict, names=(core, lrat))
+    printed = [re.search(r": \d+ bytes of \d+: (lrupd .*)", line) for line in answer.comments
+               if ": lrupd's verdict: " not in line]
+    by_hand, = [found[1] for found in printed if found]
+    if (core + lrat + name).isprintable() and (core + lrat + name).isascii():
+        lrupd = f"lrupd() {{ {shlex.quote(PROGRAM)} \"$@\"; }}"
+        done = run(["sh", "-c", f"{lrupd}; {by_hand}"], cwd=tmp_path)
+        assert done.err == ""
+        assert done.out.splitlines()[-1] == verdict
+
+
+@each_output
+@pytest.mark.parametrize("first", named([("no row suffices", "1 1 0 0"), ("no size", "c")]))
+def test_outputs_that_are_checked_in_rounds(first: str, core: str, lrat: str, name: str,
+                                            tmp_path: Path) -> None:
+    """They are if lrup-trim's first line says that no row suffices, or says nothing."""
     trim = f"{shlex.quote(str(TRIM))} \"$@\" | sed '1s/.*/{first}/'"
     program = programs_beside(
-        {"lrup-trim": trim, "lrup-exact": f"exec {shlex.quote(str(FILTER))} \"$@\""}, work)
-    formula = written(generated("pigeons 5", work).read_bytes(), work, name)
+        {"lrup-trim": trim, "lrup-exact": f"exec {shlex.quote(str(FILTER))} \"$@\""}, tmp_path)
+    formula = written(generated("pigeons 5", tmp_path).read_bytes(), tmp_path, name)
     done = run([program, "--lrupd", PROGRAM, "-j", 1, "--core", core, "--lrat", lrat, "--", name],
-               cwd=work)
-    want((done.err, done.status, done.out.count(f": lrupd's verdict: {PROVED}\n")), ("", 20, 2),
-         f"the messages in\n{done.out}")
-    core_of(work / core, read_formula(formula))
-    want(lrat_fault(read_formula(formula), (work / lrat).read_text()), "",
-         "the LRAT checker's message")
+               cwd=tmp_path)
+    assert (done.err, done.status) == ("", 20)
+    assert done.out.count(f": lrupd's verdict: {PROVED}\n") == 2
+    core_of(tmp_path / core, read_formula(formula))
+    assert lrat_fault(read_formula(formula), (tmp_path / lrat).read_text()) == ""
 
 
-def pipe_in_a_record(name: str, work: Path) -> None:
-    """Only regular files are read: nothing hangs."""
-    formula = generated("pigeons 5", work)
-    want(solve(["-j", 1, "--proofs", "d", formula], cwd=work).status, 20, "the status")
-    path = work / (name or formula.name)
-    path.unlink()
-    os.mkfifo(path)
-    want(run(["sh", "d/command"], cwd=work, limit=20), 
-         Ran("", f"lrup-recheck: {path} isn't a regular file\n", 1),
-         "the output of the record's check")
-    tools = ((TRIM, ("--core", "core")), (EXPLAIN, ())) if name == "d/formula.sha256" else ()
-    for tool, words in tools:
-        done = run([tool, *words, formula, "d"], cwd=work, limit=20)
-        want((done.status,
-              done.err.endswith(
-                  "d/formula.sha256: has to be a regular file, since it is read more than once\n")),
-             (1, True), f"the output of {tool.name}: {done.err}")
+# Records that are replaced.
 
 
-def several_checks(work: Path) -> None:
-    """Two checks at a time, in a read-only record."""
-    shutil.copy(PROGRAM, work / "lrupd")
-    formula = written(generated("random 180 3", work).read_bytes(), work, "formula.cnf")
-    want(solve(["--lrupd", "./lrupd", "-j", 2, "--proofs", "d", formula], tested=SMALL, cwd=work)
-         .status, 20, "the status")
-    (work / "d").chmod(0o555)
-    check_again(work / "d")
-    done = by_another(["sh", "-c", "sh d/command > /dev/null & sh d/command && wait \"$!\""], work)
-    want((done.out.splitlines()[-1:], done.err, done.status), ([PROVED], "", 0),
-         "the output of two checks by a user who can't write there")
+def want_not_replaced(words: Sequence[str], record: Path, given: Optional[str] = None,
+                      program: Path = SOLVE) -> None:
+    """Nothing of a record with a proof is removed before the inputs and the programs of the run
+    that replaces it are accepted."""
+    before = {path: path.read_bytes() for path in record.iterdir()}
+    for name, text in (("bad", "p cnf 1 1\n2 0\n"), ("packed", "\x1f\x8b garbled"),
+                       ("cubes", "a 99999 0\n"), ("cube", "99999 0\n")):
+        written(text, record.parent, name)
+    in_place_of_lrupd("exit 5", record.parent)
+    done = run([program, "--lrupd", PROGRAM, "--proofs", "d", "--replace", *words], given,
+               cwd=record.parent)
+    assert (done.out, done.status) == ("", 1)
+    assert re.fullmatch(".+\n", done.err)
+    assert {path: path.read_bytes() for path in record.iterdir()} == before
+    check_again(record)
 
 
-def check_interrupted(number: int, work: Path) -> None:
-    """The check ends with its lrupd, leaves nothing, and can be repeated."""
-    files, slow = work / "temporary", work / "slow"
-    files.mkdir()
-    lrupd = before_lrupd(f"[ ! -e {slow} ] || {{ touch {work}/begun; exec sleep 100; }}", work)
-    formula = generated("random 180 3", work)
-    want(solve(["--lrupd", lrupd, "-j", 2, "--proofs", "d", formula], tested=SMALL, cwd=work)
-         .status, 20, "the status")
-    slow.touch()
-    with started(["sh", "d/command"], cwd=work,
-                 env={**os.environ, "TMPDIR": str(files)}) as checking:
-        until("it is checked", (work / "begun").exists)
-        want(len(os.listdir(files)), 1, "folders")
-        checking.send_signal(number)
-        want(checking.wait(20), 143, "the status")
-    want(os.listdir(files), [], "the files left")
-    slow.unlink()
-    check_again(work / "d", {"TMPDIR": str(files)})
-    files.chmod(0o777)
-    said = f"lrup-recheck: {files}: others may write there: choose another TMPDIR\n"
-    want(run(["sh", "d/command"], cwd=work, env={**os.environ, "TMPDIR": str(files)}),
-         Ran("", said, 1), "where others may write")
-    want(os.listdir(files), [], "the files left there")
+@pytest.fixture
+def proved_record(formula: Path) -> Path:
+    """A record with a proof, and a copy of the formula."""
+    return record_of(formula, "-j", 1, is_piped=True)
 
 
-def check_interrupted_between(line: str, work: Path) -> None:
-    """A signal that comes right after a program is started, before anything else, ends this
-    program, too."""
-    needs("xz")
-    files, slow, mark = work / "temporary", work / "slow", marked(work)
-    files.mkdir()
-    lrupd = before_lrupd(f"[ ! -e {slow} ] || exec sleep 100", work)
-    formula = generated("random 180 3", work)
-    want(solve(["--lrupd", lrupd, "-j", 2, "--proofs", "d", formula], tested=SMALL, cwd=work)
-         .status, 20, "the status")
-    want(run(["xz", *(work / "d").glob("round-1.stream-*")]).status, 0, "the packer's status")
-    slow.touch()
-    text, count = re.subn(line, r"\g<0> kill -TERM $$", LRUP_RECHECK.read_text(), flags=re.M)
-    want(count, 1, "how many such lines there are")
-    done = run(["sh", written(text, work, "edited"), "--lrupd", lrupd, work / "d"],
-               env={**os.environ, "TMPDIR": str(files)}, limit=20)
-    want((done.status, os.listdir(files)), (143, []), f"the status, and what is left: {done.err}")
-    none_left(mark)
+@pytest.mark.parametrize("words", [
+    "bad", "none", "packed", "--cubes cubes formula.cnf", "--cubes none formula.cnf",
+    "--assume cube formula.cnf", "--solver 'none %formula %proof' formula.cnf",
+    "--lrupd ./lrupd formula.cnf"])
+def test_a_refused_run_replaces_no_record(words: str, proved_record: Path) -> None:
+    want_not_replaced(shlex.split(words), proved_record)
 
 
-def unread(work: Path) -> None:
-    """Nothing is left if nobody reads what the check says."""
-    files = work / "temporary"
-    files.mkdir()
-    formula = generated("random 180 3", work)
-    want(solve(["-j", 2, "--proofs", "d", formula], tested=SMALL, cwd=work).status, 20,
-         "the status")
-    run(["sh", "-c", "{ sleep 0.5; sh d/command; } | true"], cwd=work,
-        env={**os.environ, "TMPDIR": str(files)})
-    want(os.listdir(files), [], "the files left")
+@pytest.mark.parametrize("words, given", named([
+    ("a bad formula", [], "p cnf 1 1\n2 0\n"), ("no formula", ["-"], ""),
+    ("another lrupd", ["--lrupd", "./lrupd"], FOUR)]))
+def test_refused_standard_input_replaces_no_record(words: List[str], given: str,
+                                                   proved_record: Path) -> None:
+    want_not_replaced(words, proved_record, given)
+
+
+@pytest.mark.parametrize("proof", [".", "none"])
+def test_a_refused_proof_replaces_no_record(proof: str, proved_record: Path) -> None:
+    want_not_replaced(["formula.cnf", proof], proved_record,
+                      program=SOLVE.with_name("lrup-check"))
 
 
 # Space.
 
 
-def shown_sizes(work: Path) -> None:
-    """A comment says how many MB are kept and free, but not for a record that is removed."""
-    formula = generated("pigeons 6", work)
-    answer = solve(["-j", 1, "--proofs", "d", formula], cwd=work)
+def test_comments_say_how_much_space_a_record_takes(tmp_path: Path) -> None:
+    answer = solve(["-j", 1, "--proofs", "d", generated("pigeons 6", tmp_path)], cwd=tmp_path)
     found = [re.fullmatch(r"d: ([\d.]+) MB kept, [\d,]+ MB free", line) for line in answer.comments]
-    size = sum(path.stat().st_size for path in (work / "d").iterdir())
-    want([round(float(one[1]) - size / 1e6) for one in found if one], [0],
-         f"whether a comment says so:\n{answer.out}")
-    for words in ((), ("--lrat", work / "lrat")):
-        want([line for line in solve(["-j", 1, *words, formula]).comments if " MB " in line], [],
-             "comments on sizes if nothing is kept")
+    kept, = [float(line[1]) for line in found if line]
+    size = sum(path.stat().st_size for path in (tmp_path / "d").iterdir())
+    assert round(kept - size / 1e6) == 0
 
 
-def unwritable(words: List[str], said: str, work: Path) -> None:
-    """Outputs that can't be written are refused before the run, and nothing is left."""
-    formula = generated("pigeons 6", work)
-    (work / "folder").mkdir()
-    before = sorted(os.listdir(work))
-    lrupd = before_lrupd(f"touch {work}/began", work / "folder")
-    answer = solve(["--lrupd", lrupd, *words, formula], cwd=work)
-    want((answer.out, answer.said, answer.status), ("", f"lrup-solve: {said}\n", 1), "the answer")
-    want(sorted(os.listdir(work)), before, "the files")
+@pytest.mark.parametrize("words", [[], ["--lrat", "lrat"]], ids=["no output", "LRAT text"])
+def test_no_comment_on_space_without_a_record(words: List[str], formula: Path,
+                                              tmp_path: Path) -> None:
+    answer = solve(["-j", 1, *words, formula], cwd=tmp_path)
+    assert [line for line in answer.comments if " MB " in line] == []
 
 
-def replaced_by_none(words: Sequence[object], given: Optional[str], program: Path,
-                     work: Path) -> None:
-    """Nothing of a record with a proof is removed before the inputs and the programs of the run
-    that replaces it are accepted."""
-    formula, record = generated("pigeons 5", work), work / "d"
-    want(solve(["-j", 1, "--proofs", "d"], cwd=work, given=formula.read_text()).status, 20,
-         "the status")
-    before = {path: path.read_bytes() for path in record.iterdir()}
-    for name, text in (("bad", "p cnf 1 1\n2 0\n"), ("packed", "\x1f\x8b garbled"),
-                       ("cubes", "a 99999 0\n"), ("cube", "99999 0\n")):
-        written(text, work, name)
-    in_place_of_lrupd("exit 5", work)
-    done = run([program, "--lrupd", PROGRAM, "--proofs", "d", "--replace", *words], given, cwd=work)
-    want((done.out, done.err.count("\n"), done.status), ("", 1, 1), f"the answer, with {done.err}")
-    want({path: path.read_bytes() for path in record.iterdir()}, before, f"the files: {done.err}")
-    check_again(record)
-
-
-def written_into_a_record(record: str, place: str, work: Path) -> None:
-    """The outputs go into the record's folder, which doesn't exist yet."""
-    formula, place = generated("pigeons 5", work), place.replace("WORK", str(work))
-    kept(["-j", 1, "--proofs", record, formula], formula, work,
-         names=(f"{place}core.cnf", f"{place}proof.lrat"))
-
-
-def on_a_disk(kilobytes: int, words: List[object], tested: Optional[Mapping[str, object]],
-              work: Path) -> Answer:
+def solve_on_a_disk(kilobytes: int, words: Sequence[object], tested: Hooks, work: Path) -> Answer:
     """Runs lrup-solve with a disk of this size for the record or, without a record, for temporary
     files."""
     (work / "full").mkdir()
@@ -728,149 +941,81 @@ def on_a_disk(kilobytes: int, words: List[object], tested: Optional[Mapping[str,
     if run([*how, mounts], cwd=work).status != 0:
         pytest.skip("no file system can be mounted")
     formula = generated("random 180 3", work)
-    done = run(
+    more = {"TMPDIR": f"{work}/full"} if "--proofs" not in words else {}
+    return Answer(run(
         [*how, mounts + ' && exec "$@"', "sh", *command([*words, formula], tested)], cwd=work,
-        env=in_environment(tested, {"TMPDIR": f"{work}/full"} if "--proofs" not in words else {}))
-    return Answer(done)
+        env=in_environment(tested, more)))
 
 
-def on_a_full_disk(kilobytes: int, words: List[object], tested: Optional[Dict[str, object]],
-                   said: str, work: Path) -> None:
-    """The record is lost, and that is reported; neither the verdict nor its status is lost."""
-    answer = on_a_disk(kilobytes, words, tested, work)
-    want((answer.answers, answer.status), ([PROVED], 20),
-         f"the answer of\n{answer.out[-3000:]}{answer.said}")
-    want(re.fullmatch(f"lrup-solve: {said}: No space left on device\n", answer.said) is not None,
-         True, f"the message: {answer.said}")
-    want(any(line.startswith("the record is lost: cannot write ")
-             for line in answer.comments) or not tested,
-         True, f"whether a comment says so meanwhile:\n{answer.out}")
-    want(" rounds with " in answer.out, tested is not None,
-         f"whether there are several rounds in\n{answer.out}")
+def want_lost(answer: Answer, what: str) -> None:
+    """Neither the verdict nor its status is lost, and the message says what is."""
+    assert (answer.answers, answer.status) == ([PROVED], 20), answer.out + answer.said
+    assert re.fullmatch(f"lrup-solve: {what}: No space left on device\n", answer.said)
 
 
-def full_of_rounds(work: Path) -> None:
-    """lrupd can't save a round: the message says where."""
-    answer = on_a_disk(16, ["-j", 2], SMALL, work)
-    want((answer.answers, answer.status), (["s UNKNOWN"], 0),
-         f"the answer of\n{answer.out[-3000:]}{answer.said}")
-    want(f"lrupd ended with status 9: TMPDIR ({work}/full) has 0 MB left" in answer.comments, True,
-         f"whether a comment says so:\n{answer.out}")
+LOST = r"the record is lost: cannot write \S+/full/d/round-\d+\.\S+"
+each_small_disk = pytest.mark.parametrize("kilobytes", [8, 16, 64, 300, 700])
+one_or_three_engines = pytest.mark.parametrize("engines", [1, 3])
+
+
+@each_small_disk
+@one_or_three_engines
+def test_a_disk_that_is_full_in_a_round(kilobytes: int, engines: int, tmp_path: Path) -> None:
+    answer = solve_on_a_disk(kilobytes, ["-j", engines, "--proofs", "full/d"], None, tmp_path)
+    want_lost(answer, LOST)
+    assert " rounds with " not in answer.out
+
+
+@each_small_disk
+@one_or_three_engines
+def test_a_disk_that_is_full_after_some_rounds(kilobytes: int, engines: int,
+                                               tmp_path: Path) -> None:
+    """A comment says meanwhile that the record is lost."""
+    answer = solve_on_a_disk(kilobytes, ["-j", engines, "--proofs", "full/d"], IN_ROUNDS, tmp_path)
+    want_lost(answer, LOST)
+    assert " rounds with " in answer.out
+    said = "the record is lost: cannot write "
+    assert any(line.startswith(said) for line in answer.comments), answer.out
+
+
+def test_a_disk_that_is_full_for_lrat_text(tmp_path: Path) -> None:
+    answer = solve_on_a_disk(64, ["-j", 2, "--lrat", "lrat"], None, tmp_path)
+    want_lost(answer, r"no core and no LRAT text: cannot write \S+/full/lrup-solve-\d+/kept/"
+                      r"round-1\.stream-\d")
+    assert " rounds with " not in answer.out
+
+
+def test_a_disk_on_which_lrupd_cannot_save_a_round(tmp_path: Path) -> None:
+    """The message says where."""
+    answer = solve_on_a_disk(16, ["-j", 2], IN_ROUNDS, tmp_path)
+    assert (answer.answers, answer.status) == (["s UNKNOWN"], 0), answer.out + answer.said
+    assert f"lrupd ended with status 9: TMPDIR ({tmp_path}/full) has 0 MB left" in answer.comments
 
 
 # Why a line is bad.
 
 
-def explained(with_record: bool, work: Path) -> None:
-    """If lrupd reports a first line that lacks its last hint, comments say why the line is bad."""
-    formula, record = generated("pigeons 5", work), "d/round-1.stream-1"
-    spoils = f"[ ! -f {record} ] || sed -i '1s/ [0-9]* 0$/ 0/' {record}; "
-    lrupd = before_lrupd(spoils + "echo 'c stream 1: 0 added, 0 deleted, bad line 1 (no "
-                         "conflict)'; echo s UNKNOWN; exit 3", work)
-    answer = Answer(run([SOLVE, "--lrupd", lrupd, "-v", "-j", 1, *["--proofs", "d"] * with_record,
-                         formula], cwd=work))
-    want((answer.status, answer.said), (0, ""), f"the answer of\n{answer.out[-3000:]}")
-    if with_record:
-        at = answer.comments.index(f"stream 1 ({record}), line 1: no conflict")
-        named = [any(word in line for line in answer.comments[at:])
-                for word in ("  why: ", "  a right chain: ")]
-        want(named, [True, True], f"the comments\n{answer.out[-3000:]}")
-    else:
-        want("lrup-explain shows why, if --proofs DIR keeps the streams" in answer.comments, True,
-             f"the comments\n{answer.out[-3000:]}")
+def solve_rejected(words: Sequence[object], before: str, formula: Path) -> Answer:
+    """In place of lrupd, something is done first, and then line 1 is said to be bad."""
+    said = "c stream 1: 0 added, 0 deleted, bad line 1 (no conflict)"
+    lrupd = before_lrupd(f"{before}echo '{said}'; echo s UNKNOWN; exit 3", formula.parent)
+    answer = solve(["--lrupd", lrupd, "-v", "-j", 1, *words, formula], cwd=formula.parent)
+    assert (answer.status, answer.said) == (0, ""), answer.out
+    return answer
 
 
-def rows() -> List[Row]:
-    found: List[Row] = [("one engine", of_random, "-j 1", "random 150 1", {}),
-                        ("two engines", of_random, "-j 2", "random 170 4", {}),
-                        ("rounds", of_random, "-j 2", "random 180 3", SMALL),
-                        ("a pipe", from_a_pipe), ("a record", of_a_record),
-                        ("assumptions", assuming), ("no proof", no_proof),
-                        ("there before", there_before)]
-    found += [(f"{option} alone", one_alone, option) for option in ("--core", "--lrat")]
-    found += [(name, with_another, tools, said) for name, tools, said in ANOTHERS]
-    found += [(f"another formula, {'by a pipe' if piped else 'a file'}", another_formula, piped)
-              for piped in (False, True)]
-    found += [(f"moved, {words}{', by a pipe' if piped else ''}{', rounds' if tested else ''}",
-               moved, words, piped, tested)
-              for words, piped, tested in (("pigeons 5", False, None), ("pigeons 5", True, None),
-                                           ("random 180 3", True, SMALL))]
-    found += [(f"not there: {name or 'the formula'}", not_there, name, piped) for name, piped in (
-        ("", False), ("d/formula.cnf", True), ("d/round-1.stream-1", False),
-        ("d/formula.sha256", False))]
-    found += [("a strange name", strange_name)]
-    found += [(f"named {names!r}{', assuming' * assumes}{', rounds' * bool(tested)}", strange_names,
-               names, assumes, tested) for names in STRANGE for assumes in (False, True)
-              for tested in (None, ROUNDS)]
-    found += [(f"outputs named {core!r} and {lrat!r}{', assuming' * assumes}", strange_outputs,
-               core, lrat, name, assumes) for core, lrat, name in OUTPUTS
-              for assumes in (False, True)]
-    found += [(f"checked in rounds, {core!r} {first}", checked_in_rounds, first, core, lrat, name)
-              for core, lrat, name in OUTPUTS for first in ("1 1 0 0", "c")]
-    found += [(f"a pipe as {name or 'the formula'}", pipe_in_a_record, name) for name in
-              ("", "d/formula.sha256", "d/round-1.stream-1", "d/round-1.sizes")]
-    found += [
-        (f"about, {engines} engines{', by a pipe' * bool(given)}{', rounds' if tested else ''}",
-         about, engines, given, tested)
-        for engines, given, tested in ((1, "", None), (2, "pipe", None), (2, "", SMALL))]
-    found += [("several checks", several_checks), ("names a formula", names_a_formula),
-              ("programs moved", programs_moved)]
-    found += [(f"moved together{', assuming' * assumes}", moved_together, assumes)
-              for assumes in (False, True)]
-    found += [(f"digests by {tool or 'nothing'}", digests_by, tool)
-              for tool in ("sha256sum", "shasum", "openssl", "")]
-    found += [
-        (f"packed, {' and '.join(forms)}{', rounds' if tested else ''}", packed, forms, tested)
-        for forms in (["xz"], ["gz"], ["zst"], ["xz", "gz", "zst"]) for tested in (None, ROUNDS)]
-    found += [(f"packed, with {closing}", packed_and_closed, closing)
-              for closing in ("<&-", "<&- 2>&-")]
-    found += [(f"packed, and gets {number.name}", packed_and_interrupted, number)
-              for number in (signal.SIGTERM, signal.SIGINT)]
-    found += [(f"the first line of {name!r}", first_line_of, name, shown) for name, shown in (
-        ("a\ns UNSATISFIABLE", "a?s UNSATISFIABLE"), ("a\033[31m\r\177b", "a?[31m??b"),
-        ("gr\u00f6\u00dfe", "gr\u00f6\u00dfe"))]
-    found += [(f"a check that gets {number.name}", check_interrupted, number)
-              for number in (signal.SIGTERM, signal.SIGINT, signal.SIGHUP)]
-    found += [(f"a signal after {name}", check_interrupted_between, line) for name, line in (
-        ("a program that unpacks", r'^ *unpack "\$k" &$'), ("lrupd", r'^ *"\$lrupd" .* &$'))]
-    found += [("a check that nobody reads", unread)]
-    found += [("a disk that is full of rounds", full_of_rounds),
-              ("sizes that are shown", shown_sizes)]
-    check = SOLVE.with_name("lrup-check")
-    by_none: List[Tuple[List[str], Optional[str], Path]] = [
-        (["bad"], None, SOLVE), (["none"], None, SOLVE), (["packed"], None, SOLVE),
-        ([], "p cnf 1 1\n2 0\n", SOLVE), (["-"], "", SOLVE),
-        (["--cubes", "cubes", "formula.cnf"], None, SOLVE),
-        (["--cubes", "none", "formula.cnf"], None, SOLVE),
-        (["--assume", "cube", "formula.cnf"], None, SOLVE),
-        (["--solver", "none %formula %proof", "formula.cnf"], None, SOLVE),
-        (["--lrupd", "./lrupd", "formula.cnf"], None, SOLVE),
-        (["--lrupd", "./lrupd"], FOUR, SOLVE),
-        (["formula.cnf", "."], None, check), (["formula.cnf", "none"], None, check)]
-    found += [(f"replaced by none: {' '.join(words)}{', ' * bool(given)}{given or ''}",
-               replaced_by_none, words, given, program) for words, given, program in by_none]
-    found += [(f"outputs in a record, {place} in {record}", written_into_a_record, record, place)
-              for record, place in (("d", "d/"), ("./d", "d/"), ("d/", "./d//"), ("d", "WORK/d/"),
-                                    ("d", "d/../d/"))]
-    found += [(f"unwritable: {' '.join(words)}", unwritable, words, said) for words, said in (
-        (["--core", "none/core"], "cannot write none/core: No such file or directory"),
-        (["--proofs", "d", "--core", "none/core"],
-         "cannot write none/core: No such file or directory"),
-        (["--lrat", "/proc/lrat"], "cannot write /proc/lrat: No such file or directory"),
-        (["--core", "one", "--lrat", "folder/lrupd/x"],
-         "cannot write folder/lrupd/x: Not a directory"),
-        (["--core", "one", "--lrat", "./one"], "cannot write ./one: File exists"),
-        (["--lrat", "x" * 300], f"cannot write {'x' * 300}: File name too long"))]
-    lost = r"the record is lost: cannot write \S+/full/d/round-\d+\.\S+"
-    found += [(f"a disk of {size} kB{', rounds' if tested else ''}", on_a_full_disk, size,
-               ["-j", engines, "--proofs", "full/d"], tested, lost) for tested in (None, SMALL)
-              for size in (8, 16, 64, 300, 700) for engines in (1, 3)]
-    found += [
-        ("a disk that is full for LRAT text", on_a_full_disk, 64, ["-j", 2, "--lrat", "lrat"], None,
-         r"no core and no LRAT text: cannot write \S+/full/lrup-solve-\d+/kept/round-1\.stream-\d")]
-    return found + [(f"a bad line, {'with' if record else 'without'} a record", explained, record)
-                    for record in (True, False)]
+def test_a_bad_line_is_explained(formula: Path) -> None:
+    """Line 1 lacks its last hint: comments say why it is bad."""
+    stream = "d/round-1.stream-1"
+    lacks = f"[ ! -f {stream} ] || sed -i '1s/ [0-9]* 0$/ 0/' {stream}; "
+    answer = solve_rejected(["--proofs", "d"], lacks, formula)
+    said = f"stream 1 ({stream}), line 1: no conflict"
+    assert said in answer.comments
+    explained = "\n".join(answer.comments[answer.comments.index(said):])
+    assert "  why: " in explained
+    assert "  a right chain: " in explained
 
 
-pytestmark = FOR_TESTS
-test_row = parametrized(rows())
+def test_a_bad_line_without_a_record(formula: Path) -> None:
+    answer = solve_rejected([], "", formula)
+    assert "lrup-explain shows why, if --proofs DIR keeps the streams" in answer.comments
