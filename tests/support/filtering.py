@@ -3,7 +3,7 @@ import re
 from pathlib import Path
 from typing import List, Sequence, Tuple, Union
 
-from harness import FILTER, Ran, enough_for, report, run, want, written
+from harness import FILTER, Ran, enough_for, report, run, written
 
 Text = Union[str, bytes]
 FIRST = "5 2 0 1 2 0\n"      # the first line of a proof over the four clauses
@@ -28,8 +28,8 @@ def check(program: str, formula: Path, streams: Sequence[Tuple[object, int]]) ->
     paths = [Path(str(path)) for path, _ in streams]
     done = run([program, "--tries", "1000000", *enough_for(paths), formula, *paths])
     *lines, verdict = done.out.splitlines() or [""]
-    want((len(lines), verdict, done.status), (len(streams), "s UNSATISFIABLE", 0),
-         f"{done.err}the verdict")
+    assert (verdict, done.status) == ("s UNSATISFIABLE", 0), done.out + done.err
+    assert len(lines) == len(streams), done.out
     for number, (line, (path, wanted)) in enumerate(zip(lines, streams), 1):
         found = re.fullmatch(rf"c stream {number}: (\d+) added, \d+ deleted, ended", line)
         count = int(found[1]) if found else -1
@@ -50,5 +50,6 @@ def sorted_hints(text: str) -> List[Tuple[List[str], List[str]]]:
 
 
 def check_report(program: str, formula: Path, text: str, said: str, work: Path) -> None:
-    found = run([program, *enough_for([text.encode()]), formula, written(text, work, "exact")]).out
-    want(found.splitlines()[:1], report([said], 3).splitlines()[:1], "the report")
+    """The program's report begins with these words about the stream."""
+    done = run([program, *enough_for([text.encode()]), formula, written(text, work, "exact")])
+    assert done.out.splitlines()[:1] == report([said], 3).splitlines()[:1], done.err

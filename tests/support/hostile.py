@@ -10,7 +10,7 @@ import time
 from pathlib import Path
 from typing import Optional, Sequence
 
-from harness import PROGRAM, run, want, written
+from harness import PROGRAM, run, written
 from proof_forms import read_formula
 from solving import SOLVE, Answer, end_all, marked, none_left
 
@@ -148,10 +148,10 @@ def run_with(body: str, words: Sequence[object], text: str, work: Path, lrupd: o
     if may_leave:
         end_all(mark)
     none_left(mark)
-    want(os.listdir(files), [], "files that it makes")
+    assert os.listdir(files) == []
     strange = [line for line in answer.out.splitlines() if line[:2] not in ("c ", "s ", "v ")]
-    want((strange, len(answer.answers) < 2), ([], True),
-         f"lines of another kind in\n{answer.out[-2000:]}")
+    assert strange == []
+    assert len(answer.answers) < 2
     if time.monotonic() - begun > LONG:
         raise subprocess.TimeoutExpired("the run", LONG)
     return answer

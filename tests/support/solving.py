@@ -18,7 +18,7 @@ from typing import Any, Callable, Dict, List, Mapping, Optional, Sequence, Tuple
 import pytest
 
 from harness import (BUILDS, FLAGS, MODEL, OUT, PROGRAM, ROOT, USUAL_FLAGS, VERDICTS, Ran, alone,
-                     dimacs, is_newer, lacking, random_clauses, run, until, want, written)
+                     dimacs, is_newer, lacking, random_clauses, run, until, written)
 from proof_forms import read_formula
 
 COMPILERS = [os.environ.get(name, "") for name in ("CC", "CXX")]
@@ -94,14 +94,13 @@ def want_answer(answer: Answer, status: int, formula: Optional[Path] = None,
     """Checks the status and the answer's line and, for a satisfiable formula, that the assignment
     makes each clause true."""
     wanted = ([verdict or ANSWERS[status]], status, "")
-    want((answer.answers, answer.status, answer.said), wanted,
-         f"the answer of\n{answer.out[-2000:]}")
+    assert (answer.answers, answer.status, answer.said) == wanted, answer.out[-2000:]
     if status != 10 or formula is None:
-        return want(answer.values, [], "the assignment")
+        assert answer.values == []
+        return
     header = re.search(r"^p cnf +(\d+)", formula.read_text(), re.M)
     assert header
-    want([abs(value) for value in answer.values], [*range(1, int(header[1]) + 1), 0],
-         "the variables of the assignment")
+    assert [abs(value) for value in answer.values] == [*range(1, int(header[1]) + 1), 0]
     true = set(answer.values)
     for clause in read_formula(formula):
         assert true & set(clause), f"the assignment makes the clause {clause} false"
@@ -121,10 +120,8 @@ def check_again(kept: Path, env_more: Optional[Mapping[str, str]] = None) -> Non
     before = {path: path.lstat().st_mtime_ns for path in [kept, *kept.iterdir()]}
     done, report = (run(["sh", kept / "command"], cwd="/", env=in_environment(more=env_more)),
                     (kept / "report").read_text())
-    want((done.out[-len(report):], done.status), (report, 0),
-         f"the streams, checked again, with {done.err}")
-    want({path: path.lstat().st_mtime_ns for path in [kept, *kept.iterdir()]}, before,
-         "the record's files, and their times")
+    assert (done.out[-len(report):], done.status) == (report, 0), done.err
+    assert {path: path.lstat().st_mtime_ns for path in [kept, *kept.iterdir()]} == before
 
 
 def listed(kept: Path) -> List[str]:
@@ -149,7 +146,7 @@ def rests_on(rule: str, found: str, most: int, formula: Callable[[int], Path],
     assert broken is not None, f"none of {most} runs broke without the rule"
     for seed in sorted({*range(12), broken}):
         whole = answer(seed, {})
-        want(has_broken(whole), False, f"whether it breaks with all rules\n{whole.out[-2000:]}")
+        assert not has_broken(whole), f"it breaks with all rules\n{whole.out[-2000:]}"
         want_answer(whole, whole.status if whole.status in (10, 20) else 20, formula(seed))
 
 
