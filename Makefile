@@ -291,7 +291,7 @@ days: $(BUILT) exact pytest ## check: kill processes of lrup-solve for MINUTES=6
 
 attack: $(BUILT) exact pytest ## check: random words, names, hostile programs and failing calls for lrup-solve and lrup-check, for MINUTES=60
 	@echo "seed $(SEED)" && $(PYTEST) tests/solve/test_lrup_solve_attack.py --program $(PROGRAM) \
-	--seed $(SEED) --minutes $(MINUTES)
+	-m nightly --seed $(SEED) --minutes $(MINUTES)
 
 building: toolchain ## measure: the first build, crate by crate, in a clone of HEAD; on a quiet machine without kept proofs
 	@python3 bench/first_build.py $(RT)

@@ -33,7 +33,7 @@ from records import recorded
 from solving import is_alive, marked, of_process, solve
 from truths import Formula, satisfies
 
-pytestmark = pytest.mark.usefixtures("solve_for_tests", "in_time")
+pytestmark = [pytest.mark.nightly, pytest.mark.usefixtures("solve_for_tests", "in_time")]
 FEW = 12        # seeds without --minutes
 SEEDS = range(SEED, SEED + (1 + int(600 * MINUTES) if MINUTES else COUNT or FEW))
 LIMIT = 60      # seconds within which each run has to end
