@@ -102,7 +102,7 @@ def meanwhile(signs: str, body: str) -> Attack:
     """The front accepts a wrong model since something happens when lrup-model has checked it, and
     the front doesn't know that yet."""
     return lambda front, work: accepts(STOPS.format(signs=signs, body=body))(
-        with_model(f'sleep 0.5\nexec {MODEL} "$@"', front, work), work)
+        with_model(f'{UNTIL_STOPPED}\nexec {MODEL} "$@"', front, work), work)
 
 
 def assumes(body: str, literals: str) -> Callable[[Path, Path], Answer]:
@@ -251,12 +251,18 @@ check()
 hears('lrupd')
 import resource
 resource.prlimit(int(front), resource.RLIMIT_FSIZE, 2 * ({len(UNSATISFIABLE)},))"""
-STOPS = COMMON.replace("{", "{{").replace("}", "}}") + """model({signs!r})
+STOPS = COMMON.replace("{", "{{").replace("}", "}}") + """signal.signal(signal.SIGTERM, signal.SIG_IGN)
+model({signs!r})
 survives()
 os.kill(int(front), signal.SIGSTOP)
 while ' Z ' not in open(f'/proc/{{pid}}/stat').read(): time.sleep(0.01)
 {body}
 os.kill(int(front), signal.SIGCONT)"""
+# lrup-model begins once the front is stopped, or after some seconds.
+UNTIL_STOPPED = """for k in $(seq 300); do
+    grep -q '^State:.T' /proc/$PPID/status && break
+    sleep 0.01
+done"""
 FORGED = ENDS + FORGES.format(end="feeding.close()", line=UNSATISFIABLE)
 # Others write to the model before it is sealed: the same one, and a line that lrup-model skips.
 ADDS = """overwrites(in_memory('model')[0], b'v 1 2 -3 0\\ns UNSATISFIABLE\\n')
