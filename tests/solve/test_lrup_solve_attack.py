@@ -52,7 +52,7 @@ def records(solve_for_tests: None) -> Iterator[Records]:
         holes = 7
         formula, done, begun = generated(f"pigeons {holes}", work), work / "done", work / "begun"
         assert solve(["--proofs", done, generated("pigeons 5", work, "small.cnf")]).status == 20
-        recorded(["-j", "2", formula], begun, 1,
+        recorded(["-j", "2", formula], begun, 2,
                  {"SAME_WORDS": 1, "SLICE": 20, "FIRST_WORDS": 4000})
         clauses, variables = read_formula(formula), holes * (holes + 1)
         # The first pigeon needs no hole, and each other one has its own.
@@ -241,7 +241,7 @@ def assert_status_says_the_same(attack: Attack, ended: Ended, answers: List[str]
         may_show = attack.is_check and attack.out != "file"
         assert status in (1, 127) or status == 2 and may_show
         # A hostile program may tell the front that it has said something.
-        assert ended.said or 2 in attack.closes or attack.body is not None
+        assert ended.said or 2 in attack.closes or attack.body is not None or attack.fault
     else:
         expected = (STATUSES_OF_CHECK if attack.is_check else STATUSES)[answers[0]]
         assert status == expected or status == 1 and ended.said and attack.fault

@@ -394,12 +394,17 @@ class Attack:
         made: Dict[str, Callable[[], str]] = {
             "assume": lambda: self.input_word(self.cube().encode()), "core": self.output_word,
             "cubes": lambda: self.other_word(self.numbers.choice(CUBES)), "lrat": self.output_word,
-            "lrupd": lambda: self.spelled(Path(PROGRAM)), "proofs": self.record,
-            "resume": self.record, "solver": self.solver}
+            "lrupd": self.checker, "proofs": self.record, "resume": self.record,
+            "solver": self.solver}
         if name in WRONG_VALUES and self.chance(0.03):
             self.is_refused = self.is_refused or name == "assume"
             return str(self.numbers.choice(WRONG_VALUES[name]))
         return made[name]() if name in made else str(self.numbers.choice(VALUES[name]))
+
+    def checker(self) -> str:
+        """lrupd. A name without a slash isn't looked up in the current folder."""
+        word = self.spelled(Path(PROGRAM))
+        return word if "/" in word else "./" + word
 
     def hostile_program(self, body: str) -> Path:
         folder = self.place / str(self.number())
@@ -428,12 +433,14 @@ class Attack:
 
     def options(self) -> List[List[str]]:
         """Each is one word, or two."""
-        often = {"help": 0.02, "version": 0.02, "expect": 0.4, "engines": 0.02, "lrupd": 0.8,
-                 "proofs": 0.3, "resume": 0.6 if self.has_record else 0.05, "assume": 0.25,
-                 "mpi": 0.03, "solver": 0.15, "time": 0.02}
-        alone = 0.03 if self.is_check else 1
+        often = {"help": 0.01, "version": 0.01, "expect": 0.4, "lrupd": 0.8, "proofs": 0.3,
+                 "resume": 0.5 if self.has_record else 0.02, "assume": 0.25, "mpi": 0.02,
+                 "solver": 0.15, "time": 0.02, "engines": 0.02}
+        alone = 0.02 if self.is_check else 1
         chosen = [name for name, kind in OPTIONS.items()
-                  if self.chance(often.get(name, 0.12) * (alone if kind.is_alone else 1))]
+                  if self.chance(often.get(name, 0.1) * (alone if kind.is_alone else 1))]
+        if self.chance(0.9):
+            chosen = self.without_contradictions(chosen)
         if self.chance(0.05):       # twice
             chosen += [name for name in chosen if name != "assume"]
         options = [self.option(name) for name in chosen]
@@ -447,6 +454,16 @@ class Attack:
         self.numbers.shuffle(options)
         # It is the last one that counts.
         return [*options, ["--time", self.numbers.choice(("0.3", "1", "2"))]]
+
+    def without_contradictions(self, names: Sequence[str]) -> List[str]:
+        """Leaves out options that are refused beside others, or without others."""
+        refused_beside = {"proofs": {"resume"}, "replace": {"resume"}, "mpi": {"solver"},
+                          "assume": set() if self.is_check else {"solver"},
+                          "no-share": {"cubes"}}
+        needs = {"replace": {"proofs"}, "save-every": {"proofs", "resume"},
+                 "re-hint": {"core", "lrat"}}
+        left = [name for name in names if not refused_beside.get(name, set()) & set(names)]
+        return [name for name in left if name not in needs or needs[name] & set(left)]
 
     def all_words(self) -> List[str]:
         options = self.options()
