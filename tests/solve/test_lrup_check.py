@@ -23,7 +23,7 @@ from harness import (FOUR, PROGRAM, ROOT, VERDICTS, Ran, example, feed, generate
                      piped, run, started, until, written)
 from lrat import lrat_fault
 from proof_forms import read_formula
-from solving import SOLVE, Answer, check, check_again, marked, none_left, processes_of
+from solving import SOLVE, Answer, check, check_again, none_left, processes_of
 
 pytestmark = pytest.mark.usefixtures("lrup_solve")
 CHECK = SOLVE.with_name("lrup-check")
@@ -420,8 +420,8 @@ def test_a_proof_at_a_terminal(name: str, shown: str, tmp_path: Path) -> None:
 
 @pytest.mark.parametrize("number", [signal.SIGTERM, signal.SIGINT, signal.SIGHUP, signal.SIGKILL],
                          ids=lambda number: str(number.name))
-def test_a_signal_ends_the_whole_run(number: signal.Signals, tmp_path: Path) -> None:
-    mark, pipe = marked(tmp_path), piped(tmp_path / "pipe")
+def test_a_signal_ends_the_whole_run(number: signal.Signals, mark: str, tmp_path: Path) -> None:
+    pipe = piped(tmp_path / "pipe")
     with started([CHECK, "--lrupd", PROGRAM, written(FOUR, tmp_path), pipe],
                  stdout=subprocess.PIPE, stderr=subprocess.PIPE, text=True) as running:
         until("it runs", lambda: len(processes_of(mark)) >= 6)
