@@ -206,7 +206,9 @@ void Run::look_at_team(size_t k) {
     const Child &filter = teams[decider].filter;
     EngineStatus &facts = teams.engine_status(decider);
     if (LOAD(facts.refuted)) {
-        if (inputs.options.check && rounds.state == Rounds::OPEN && teams.is_any_at_work()) return;
+        bool others_go_on =
+            teams.has_windows() || (inputs.options.check && rounds.state == Rounds::OPEN);
+        if (others_go_on && teams.is_any_at_work()) return;
         if (teams.answered == 0) teams.answered = now();
         look_at_ends();
         ending = now() + ENDING;
