@@ -3,25 +3,27 @@
 What it says is the same for any number of filters and any size of windows: on proofs of random
 formulas in each form, in one round and in many, from a file and from a pipe, and on 200 (or
 --count) mutated proofs, from number --first on."""
+import contextlib
 import os
 import random
 import re
 import signal
 import subprocess
+import threading
 import time
 from pathlib import Path
-from typing import Callable, Dict, List, Mapping, Tuple
+from typing import Any, Dict, Iterator, List, Mapping, Tuple, Union
 
 import pytest
 
 import harness
-from harness import (FILTER, dimacs, feed, generated, needs, piped, random_clauses, run, started,
-                     until, written)
+from harness import (FILTER, Ran, dimacs, feed, generated, held, needs, piped, random_clauses, run,
+                     started, until, written)
 from lrat import lrat_fault
 from mutations import mutated_bytes, mutated_steps
 from proof_forms import FORMS, Clause, Step, read_formula, read_steps
-from solving import (FOR_TESTS, SOLVE, TESTED, Answer, check, check_again, children_of,
-                     in_environment, is_alive, marked, none_left)
+from solving import (FOR_TESTS, TESTED, Answer, check, check_again, children_of, in_environment,
+                     is_alive, marked, none_left, sleep)
 
 Hooks = Mapping[str, object]
 WINDOWS = (1, 2, 7)
@@ -124,15 +126,90 @@ def test_assumptions(filters: int, work: Path) -> None:
     assert said(answer) == (["s UNSATISFIABLE UNDER ASSUMPTIONS"], 8, "", [])
 
 
-@pytest.mark.parametrize("packed", ("pipe", "pauses"))
-def test_from_a_pipe(packed: str, work: Path) -> None:
+# Proofs that can't be read again.
+
+
+WAYS = ("a FIFO", "a FIFO, with pauses", "standard input", "/dev/stdin", "/dev/fd")
+
+
+def check_once(way: str, words: List[object], formula: Path, proof: Path, tested: Hooks,
+               **how: Any) -> Answer:
+    """The proof comes in this way, in which it can't be read again."""
+    data = proof.read_bytes()
+    if way.startswith("a FIFO"):
+        pipe = piped(proof.with_name("pipe"))
+        pieces: List[Union[bytes, float]] = [data]
+        if "pauses" in way:
+            size = len(data) // 20 + 1
+            pieces.clear()
+            for k in range(0, len(data), size):
+                pieces += [data[k:k + size], 0.01]
+        feed(pipe, pieces)
+        return check([*words, formula, pipe], tested=tested, **how)
+    if way == "standard input":
+        return check([*words, formula, "-"], tested=tested, given=data, **how)
+    with proof.open("rb") as file:
+        if way == "/dev/stdin":     # a file, which another process can't open by this name
+            return check([*words, formula, way], tested=tested, stdin=file, **how)
+        return check([*words, formula, f"/dev/fd/{file.fileno()}"], tested=tested,
+                     pass_fds=[file.fileno()], **how)
+
+
+@pytest.mark.parametrize("way", WAYS)
+def test_once(way: str, work: Path) -> None:
     formula, proof = in_form("binary DRAT", 2, work)
+    answer = check_once(way, ["-j", 3], formula, proof, {"WINDOW": 2})
+    assert said(answer) == (["s UNSATISFIABLE"], 0, "", [])
+
+
+@pytest.mark.parametrize("way", WAYS)
+def test_once_in_rounds(way: str, work: Path) -> None:
+    formula, proof = long_proof("LRAT text", work)
+    answer = check_once(way, ["-v", "-j", 3, "--proofs", work / "kept"], formula, proof,
+                        {"WINDOW": 7, "FIRST_WORDS": 6000, "SAME_WORDS": 1})
+    assert (answer.answers, answer.status) == (["s UNSATISFIABLE"], 0), answer.out
+    assert sum(line.startswith("round ") for line in answer.comments) >= 2, answer.out
+    check_again(work / "kept")
+
+
+ONE_CHECKS = "one filter checks it, from its beginning"
+
+
+@pytest.mark.parametrize("way", WAYS)
+def test_once_and_from_the_beginning(way: str, work: Path) -> None:
+    """One filter takes the proof, of which several have read a part."""
+    formula, proof = too_long_for_windows(work, 1000)
+    answer = check_once(way, ["-v", "-j", 2], formula, proof, {"WINDOW": 1})
+    assert (answer.answers, answer.status) == (["s UNSATISFIABLE"], 0), answer.out
+    assert any(line.endswith(ONE_CHECKS) for line in answer.comments), answer.out
+
+
+@pytest.mark.parametrize("hooks, proved", (({}, True), ({"PROOF_KEPT": 100000}, True),
+                                           ({"PROOF_KEPT": 100}, False)))
+def test_how_much_is_kept(hooks: Hooks, proved: bool, work: Path) -> None:
+    """A proof that takes too much room isn't kept, so no other filter can take it."""
+    files = work / "files"
+    files.mkdir()
+    formula, proof = too_long_for_windows(work, 1000)
+    assert 100 < proof.stat().st_size < 100000
+    answer = check_once("a FIFO", ["-j", 2], formula, proof, {"WINDOW": 1, **hooks},
+                        more={"TMPDIR": str(files)})
+    assert (answer.status == 0) == proved, answer.out
+    assert proved or "longer than a line may be" in answer.comments[0]
+    assert not list(files.iterdir())
+    formula, proof = in_form("binary DRAT", 2, work)
+    answer = check_once("standard input", ["-j", 3], formula, proof, {"WINDOW": 2, **hooks})
+    assert said(answer) == (["s UNSATISFIABLE"], 0, "", [])
+
+
+def test_a_fifo_has_no_writer(work: Path) -> None:
+    """Before a writer comes, a FIFO isn't at its end; nor is it without a reader later."""
+    formula, proof = too_long_for_windows(work, 1000)
     pipe, data = piped(work / "pipe"), proof.read_bytes()
-    pieces: Dict[str, List[object]] = {
-        "pipe": [data], "pauses": [part for k in range(0, len(data), 100)
-                                   for part in (data[k:k + 100], 0.01)]}
-    feed(pipe, pieces[packed])  # type: ignore[arg-type]
-    answer = check(["-j", 3, formula, pipe], tested={"WINDOW": 2})
+    writer = threading.Timer(1, pipe.write_bytes, [data])
+    writer.daemon = True
+    writer.start()
+    answer = check(["-j", 3, formula, pipe], tested={"WINDOW": 1})
     assert said(answer) == (["s UNSATISFIABLE"], 0, "", [])
 
 
@@ -163,6 +240,10 @@ def test_mutated_proofs(first: int, work: Path) -> None:
             hooks.update(FIRST_WORDS=2000, SAME_WORDS=1)
         several = check(["-j", filters, formula, proof], tested=hooks)
         assert said(several) == said(one), f"mutant {number}, -j {filters}, {hooks}"
+        if number % 4 == 0:
+            once = [said(check(["-j", count, formula, "-"], tested=hooks, given=proof.read_bytes()))
+                    for count in (1, filters)]
+            assert once[1] == once[0], f"mutant {number}, from a pipe, -j {filters}, {hooks}"
 
 
 WRONG_LATER = "1 2 0\n3 0\n4 0\n0\n"
@@ -179,55 +260,153 @@ def test_the_first_wrong_step_counts(filters: int, work: Path) -> None:
         f"{proof}: line 1: no conflict by unit propagation: the clause 1 2 0 ")
 
 
-def test_a_clause_too_long_for_windows(work: Path) -> None:
-    """A chain that needs many lemmas: one filter checks the proof."""
+def too_long_for_windows(work: Path, before: int) -> Tuple[Path, Path]:
+    """A proof with so many easy steps, and then a chain that needs many lemmas."""
     size = 70000
     clauses = [[k, -(k + 1)] for k in range(1, size)] + [[-1], [size, size + 1], [size, -size - 1]]
-    formula = written(dimacs(size + 1, clauses), work)
-    proof = written(f"{size} 0\n0\n", work, "proof")
+    formula = written(dimacs(size + 3, [*clauses, [size + 2, size + 3]]), work)
+    easy = f"{size + 2} {size + 3} 0\n" * before
+    return formula, written(f"{easy}{size} 0\n0\n", work, "proof")
+
+
+def test_a_clause_too_long_for_windows(work: Path) -> None:
+    """One filter checks the proof."""
+    formula, proof = too_long_for_windows(work, 0)
     answer = check(["-v", "-j", 2, formula, proof], tested={"WINDOW": 1})
     assert (answer.answers, answer.status) == (["s UNSATISFIABLE"], 0), answer.out
-    assert f"{proof}: one filter checks it, from its beginning" in answer.comments
+    assert f"{proof}: {ONE_CHECKS}" in answer.comments
+
+
+def test_no_room_for_several_filters(work: Path) -> None:
+    """The clauses that several filters keep don't fit into a row; those of one filter do."""
+    formula, proof = long_proof("binary DRAT", work)
+    words = ["-v", "--memory", "20000,40000", formula, proof]
+    hooks = {"WINDOW": 7, "FIRST_WORDS": 6000}
+    answer = check(["-j", 3, *words], tested=hooks)
+    assert (answer.answers, answer.status) == (["s UNSATISFIABLE"], 0), answer.out
+    assert any("leave no room, so one filter" in line for line in answer.comments), answer.out
 
 
 # Ends of processes.
 
 
-@pytest.mark.parametrize("name", ("filter 1", "filter 2", "filter 3", "engine 1"))
-def test_killed(name: str, work: Path) -> None:
-    """The proof never ends, so that each process is there."""
-    mark, formula = marked(work), generated("random 60 1 3.0", work)
-    pipe = piped(work / "pipe")
-    first = read_formula(formula)[0]
-    feed(pipe, [" ".join(map(str, [*first, 0])).encode() + b"\n", 60.0])
+@contextlib.contextmanager
+def running_check(formula: Path, proof: object, hooks: Hooks,
+                  *options: object) -> Iterator["subprocess.Popen[str]"]:
+    """lrup-check with three filters."""
     words = [str(word) for word in (TESTED.with_name("lrup-check"), "--lrupd", harness.PROGRAM,
-                                    "-j", 3, formula, pipe)]
-    with started(words, env=in_environment({"WINDOW": 1}), stdout=subprocess.PIPE,
-                 stderr=subprocess.PIPE, text=True) as running:
+                                    "-v", "-j", 3, *options, formula, proof)]
+    with started(words, env=in_environment(hooks), stdin=subprocess.DEVNULL,
+                 stdout=subprocess.PIPE, stderr=subprocess.PIPE, text=True) as running:
+        yield running
+
+
+FILTERS = ("filter 1", "filter 2", "filter 3")
+
+
+@pytest.mark.parametrize("name", (*FILTERS, "engine 1"))
+def test_killed(name: str, work: Path) -> None:
+    """If a filter is killed, one filter checks the proof, which comes from a pipe, from its
+    beginning. Without the process that reads the proof, there is no answer."""
+    mark, (formula, proof) = marked(work), in_form("LRAT text", 1, work)
+    pipe, data = held(work / "pipe"), proof.read_bytes()
+    half = data.index(b"\n", len(data) // 2) - 1
+    with running_check(formula, work / "pipe", {"WINDOW": 1}) as running:
+        pipe.write(data[:half])
         until(f"{name} is there", lambda: name in children_of(running.pid))
         time.sleep(0.2)
         os.kill(children_of(running.pid)[name], signal.SIGKILL)
+        time.sleep(0.2)
+        pipe.write(data[half:])
+        pipe.close()
         out, err = running.communicate(timeout=30)
     none_left(mark)
-    assert (running.returncode, err) == (3, ""), out
-    assert "s UNKNOWN" in out.splitlines()
+    answer = Answer(Ran(out, err, running.returncode))
+    if name == "engine 1":
+        assert (answer.answers, answer.status) == (["s UNKNOWN"], 3), out
+    else:
+        cause = f"{work}/pipe: a filter ended by a signal: Killed, so {ONE_CHECKS}"
+        assert cause in answer.comments, out
+        assert (answer.answers, answer.status) == (["s UNSATISFIABLE"], 0), out
 
 
-@pytest.mark.parametrize("seed", range(8))
+@pytest.mark.parametrize("seed", range(16))
 def test_filters_killed_at_random(seed: int, work: Path) -> None:
-    """The answer is right or unknown, and no process is left."""
+    """The answer is right, whatever the others are doing, in a round or between two, unless the one
+    that has taken the proof is killed. No process is left."""
     mark, numbers = marked(work), random.Random(seed)
     formula, proof = in_form(numbers.choice(list(FORMS)), seed, work)
     hooks = {"WINDOW": numbers.choice(WINDOWS), "FIRST_WORDS": 3000, "SAME_WORDS": 1}
-    words = [str(word) for word in (TESTED.with_name("lrup-check"), "--lrupd", harness.PROGRAM,
-                                    "-j", 3, formula, proof)]
-    with started(words, env=in_environment(hooks), stdout=subprocess.PIPE, stderr=subprocess.PIPE,
-                 text=True) as running:
+    given: object = proof
+    if seed % 2:
+        given = piped(work / "pipe")
+        feed(work / "pipe", [proof.read_bytes()])
+    with running_check(formula, given, hooks) as running:
         time.sleep(numbers.uniform(0, 0.15))
         pid = children_of(running.pid).get(f"filter {numbers.randrange(1, 4)}", 0)
         if is_alive(pid):
             os.kill(pid, signal.SIGKILL)
-        out, _ = running.communicate(timeout=60)
+        out, err = running.communicate(timeout=60)
     none_left(mark)
-    answers = [line for line in out.splitlines() if line.startswith("s ")]
-    assert (answers, running.returncode) in ((["s UNSATISFIABLE"], 0), (["s UNKNOWN"], 3)), out
+    answer = Answer(Ran(out, err, running.returncode))
+    if (answer.answers, answer.status) != (["s UNSATISFIABLE"], 0):
+        assert (answer.answers, answer.status) == (["s UNKNOWN"], 3), out
+        assert any(line.endswith(ONE_CHECKS) and "Killed" not in line
+                   for line in answer.comments), out
+
+
+@pytest.mark.parametrize("moment", ("ENDING", "SAVING"))
+@pytest.mark.parametrize("name", FILTERS)
+def test_killed_between_rounds(name: str, moment: str, work: Path) -> None:
+    """A filter is killed once all have ended a round, which lrupd can't save yet; or once another
+    one has."""
+    mark, (formula, proof) = marked(work), long_proof("LRAT text", work)
+    hooks = {"WINDOW": 7, "FIRST_WORDS": 6000, "SAME_WORDS": 1, "TRIES": 1000000}
+    stopped = "lrupd" if moment == "SAVING" else FILTERS[FILTERS.index(name) - 1]
+    pipe, data = held(work / "pipe"), proof.read_bytes()
+    with running_check(formula, work / "pipe", hooks) as running:
+        until("all are there", lambda: {*FILTERS} <= {*children_of(running.pid)})
+        pipe.write(data[:2000])
+        until("lrupd is there", lambda: "lrupd" in children_of(running.pid))
+        children = children_of(running.pid)
+        os.kill(children[stopped], signal.SIGSTOP)
+        writer = threading.Thread(target=lambda: (pipe.write(data[2000:]), pipe.close()))
+        writer.start()
+        sleep([children[name]])
+        os.kill(children[name], signal.SIGKILL)
+        time.sleep(0.3)
+        if stopped == "lrupd":
+            os.kill(children[stopped], signal.SIGCONT)
+        out, err = running.communicate(timeout=60)
+        writer.join()
+    none_left(mark)
+    answer = Answer(Ran(out, err, running.returncode))
+    assert (answer.answers, answer.status) == (["s UNSATISFIABLE"], 0), out
+    assert any("Killed" in line and line.endswith(ONE_CHECKS) for line in answer.comments), out
+
+
+def test_a_stop_while_a_filter_waits(work: Path) -> None:
+    """Filter 2 waits, as far ahead as it may be of filter 1, which hasn't begun. Then filter 3
+    refutes the formula at an earlier step. Until filter 1 has caught up, lrupd gets nothing that
+    cites filter 1's clauses, for which it wouldn't wait long."""
+    size, last = 300, 101      # a step of filter 3
+    clauses = [[1], *([-k, k + 1] for k in range(1, size)), [-size]]
+    steps = [f"{len(clauses) + k} {k + 1} 0 {1 if k == 1 else len(clauses) + k - 1} {k + 1} 0\n"
+             for k in range(1, size - 1)]
+    steps[last] = f"{len(clauses) + last + 1} {last + 2} 0 0\n"       # needs propagation
+    formula = written(dimacs(size, clauses), work)
+    pipe = held(work / "pipe")
+    hooks = {"WINDOW": 1, "FIRST_WORDS": 1 << 20, "TRIES": 1000}
+    with running_check(formula, work / "pipe", hooks) as running:
+        until("all are there", lambda: {*FILTERS} <= {*children_of(running.pid)})
+        children = children_of(running.pid)
+        for name in ("filter 1", "filter 3"):
+            os.kill(children[name], signal.SIGSTOP)
+        pipe.write("".join(steps).encode())
+        pipe.close()
+        sleep([children["filter 2"]])
+        for name in ("filter 3", "filter 1"):
+            os.kill(children[name], signal.SIGCONT)
+            time.sleep(1)
+        out, err = running.communicate(timeout=30)
+    assert (running.returncode, err) == (0, ""), out

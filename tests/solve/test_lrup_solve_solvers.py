@@ -12,14 +12,17 @@ import shutil
 import signal
 import subprocess
 from pathlib import Path
-from typing import Dict, List, Mapping, Sequence
+from typing import Dict, List, Mapping, Sequence, Tuple
 
 import pytest
 
 from harness import (FOUR, LIMIT, PROGRAM, SOLVER, SUPPORT, compiled, dimacs, example, generated,
                      named, needs, run, started, until, written)
-from solving import (SOLVE, check_again, marked, none_left, of_process, processes_of,
-                     random_formula, solve, want_answer)
+from lrat import lrat_fault
+from proof_forms import read_formula
+from solving import (SOLVE, Answer, check_again, children_of, in_environment, marked, none_left,
+                     of_process, processes_of, random_formula, solve, want_answer)
+from solving import command as command_of
 
 pytestmark = pytest.mark.usefixtures("solve_for_tests")
 CADICAL, AS_TEXT = "cadical -q %formula %proof", "cadical -q --no-binary %formula %proof"
@@ -142,7 +145,7 @@ def test_a_proof_that_begins_late(form: str, tmp_path: Path) -> None:
 
 def with_gaps(formula: Path, work: Path) -> str:
     """A solver writes LRAT, and leaves out two identities after each clause."""
-    want_answer(solve(["--proofs", work / "exact", *by([CADICAL]), formula],
+    want_answer(solve(["--proofs", work / "exact", *by_filters(1, CADICAL), formula],
                       tested={"FIRST_WORDS": 1 << 24}), 20)
     lines = (work / "exact" / "round-1.stream-1").read_text().splitlines()
     first = int(lines[0].split()[0])
@@ -193,7 +196,8 @@ def test_random(seed: int, tmp_path: Path) -> None:
                 PICOSAT + f" -s {seed}"]
     chosen = numbers.sample(commands, numbers.randint(1, 3))
     words = ["-j", "2"] * numbers.randint(0, 1) + ["--proofs", kept] * (seed % 5 == 0)
-    tested = {"SLICE": 50, "FIRST_WORDS": numbers.choice((2000, 1 << 20))}
+    tested = {"SLICE": 50, "FIRST_WORDS": numbers.choice((2000, 1 << 20)),
+              "WINDOW": numbers.choice((1, 7, 1000))}
     answer = solve(["-v", "--memory", "64M", *words, *by(chosen), formula], tested=tested)
     assert answer.lost() == []
     want_answer(answer, answer.status if answer.status in (10, 20) else 20, formula)
@@ -432,10 +436,167 @@ def test_a_solver_is_stopped_with_engines(tmp_path: Path) -> None:
     none_left(mark)
 
 
+# Several filters of a single solver's proof.
+
+
+FILTERS = (1, 2, 3, 5)
+
+
+def by_filters(count: int, command: str) -> List[str]:
+    return ["--filters", str(count), *by([command])]
+
+
+def said(answer: Answer) -> Tuple[object, ...]:
+    """All that an answer says, except for the summary, which has times."""
+    return answer.answers, answer.status, answer.said, answer.comments[:-1]
+
+
+each_solver = pytest.mark.parametrize("command", [CADICAL, AS_TEXT, CRYPTOMINISAT, PICOSAT])
+
+
+@each_solver
+@pytest.mark.parametrize("filters", FILTERS)
+def test_several_filters(filters: int, command: str, tmp_path: Path) -> None:
+    for name, text, status in FORMULAS:
+        formula = written(text, tmp_path, name)
+        answer = solve([*by_filters(filters, command), formula], tested={"WINDOW": 2})
+        want_answer(answer, status, formula)
+        assert answer.lost() == []
+
+
+@each_solver
+@pytest.mark.parametrize("name, status", LARGER)
+def test_several_filters_of_larger_proofs(name: str, status: int, command: str,
+                                          tmp_path: Path) -> None:
+    formula, outputs = given(name, tmp_path), ["--core", tmp_path / "core", "--lrat",
+                                               tmp_path / "lrat"]
+    answer = solve([*by_filters(3, command), *outputs, formula], tested={"WINDOW": 100})
+    want_answer(answer, status, formula)
+    assert answer.lost() == []
+    if status == 20:
+        assert lrat_fault(read_formula(formula), (tmp_path / "lrat").read_text()) == ""
+
+
+@pytest.mark.seeds(5)
+@each_solver
+def test_rounds_of_several_filters(command: str, seed: int, tmp_path: Path) -> None:
+    """Each ends a round before the same step. The last round ends in each run at another moment,
+    while some filters aren't as far as the one that refutes the formula."""
+    formula, kept = given("random 150 1", tmp_path), tmp_path / "kept"
+    answer = solve(["-v", "--proofs", kept, *by_filters(3, command), formula],
+                   tested={**MANY_ROUNDS, "WINDOW": 7})
+    want_answer(answer, 20)
+    assert answer.lost() == []
+    assert sum(line.startswith("round ") for line in answer.comments) >= 2, answer.out
+    check_again(kept)
+
+
+@pytest.mark.parametrize("command, cause", WRONG)
+def test_a_wrong_solver_of_several_filters(command: str, cause: str, tmp_path: Path) -> None:
+    """What is said is the same for any number of filters."""
+    formula = given("random 120 5", tmp_path)
+    answers = [solve(["--time", "60", *by_filters(count, command), formula],
+                     tested={"WINDOW": 1}) for count in (1, 3)]
+    assert answers[0].comments[0].startswith("solver 1 is lost: " + cause), answers[0].out
+    assert "urandom" in command or said(answers[1]) == said(answers[0])
+
+
+SLOW = """#!/usr/bin/env python3
+import subprocess, sys, time
+formula, proof, pause = sys.argv[1:]
+words = ["cadical", "-q", formula, "/dev/stdout"]
+data = subprocess.run(words, stdout=subprocess.PIPE).stdout
+with open(proof, "wb", buffering=0) as pipe:
+    for k in range(0, len(data), 1000):
+        pipe.write(data[k:k + 1000])
+        time.sleep(0.002)
+        if k // 1000 == len(data) // 2000:
+            time.sleep(float(pause))
+sys.exit(20)
+"""
+
+
+def slow(work: Path, pause: float) -> str:
+    """A solver that writes CaDiCaL's proof in pieces, with a pause in the middle."""
+    needs("cadical")
+    program = written(SLOW, work, "slow")
+    program.chmod(0o755)
+    return f"{program} %formula %proof {pause}"
+
+
+def test_rounds_end_early(tmp_path: Path) -> None:
+    """A round ends although its row isn't full, also while the solver writes nothing."""
+    formula, kept = given("random 170 4", tmp_path), tmp_path / "kept"
+    answer = solve(["-v", "--proofs", kept, "--save-every", "0.2",
+                    *by_filters(3, slow(tmp_path, 1)), formula], tested={"WINDOW": 7})
+    want_answer(answer, 20)
+    assert answer.lost() == []
+    assert sum(line.startswith("round ") for line in answer.comments) >= 3, answer.out
+    check_again(kept)
+
+
+@pytest.mark.parametrize("filters", [(3, 3), (3, 1), (1, 3), (2, 5)])
+def test_resumed_by_several_filters(filters: Tuple[int, int], tmp_path: Path) -> None:
+    """A run is ended, saves its last round, and is resumed with another number of filters."""
+    mark, formula, kept = marked(tmp_path), given("random 170 4", tmp_path), tmp_path / "kept"
+    words = [*by_filters(filters[0], slow(tmp_path, 60)), "--proofs", kept, formula]
+    with started(command_of(words, {"WINDOW": 7}), env=in_environment({"WINDOW": 7}),
+                 stdout=subprocess.PIPE, text=True) as running:
+        until("there is a stream", lambda: any(path.stat().st_size > 10000
+                                               for path in kept.glob("round-1.stream-*")))
+        running.terminate()
+        out = running.communicate(timeout=LIMIT)[0]
+    none_left(mark)
+    assert "continues the run" in out, out
+    answer = solve(["-v", "--resume", kept, *by_filters(filters[1], CADICAL), formula],
+                   tested={"WINDOW": 7, "FIRST_WORDS": 4000})
+    want_answer(answer, 20)
+    assert "lrupd has read what was saved" in answer.comments, answer.out
+    check_again(kept)
+
+
+@pytest.mark.parametrize("whom", ["filter 1", "filter 2", "filter 3", "copier", "engine 1"])
+def test_killed_with_several_filters(whom: str, tmp_path: Path) -> None:
+    """Another filter takes the whole proof from one that is killed. Without the process that copies
+    the proof, or the solver's, there is no answer."""
+    mark, formula, kept = marked(tmp_path), given("random 170 4", tmp_path), tmp_path / "kept"
+    words = ["-v", *by_filters(3, slow(tmp_path, 3)), "--proofs", kept, formula]
+    with started(command_of(words, {"WINDOW": 7}), env=in_environment({"WINDOW": 7}),
+                 stdout=subprocess.PIPE, text=True) as running:
+        until("there is a stream", lambda: any(path.stat().st_size > 100000
+                                               for path in kept.glob("round-1.stream-*")))
+        os.kill(children_of(running.pid)[whom], signal.SIGKILL)
+        out = running.communicate(timeout=LIMIT)[0]
+    none_left(mark)
+    if whom.startswith("filter"):
+        assert ("c solver 1: a filter ended by a signal: Killed, so one filter checks it, from "
+                "its beginning\n") in out, out
+        assert out.endswith("s UNSATISFIABLE\n"), out
+    else:
+        assert "solver 1 is lost: " in out
+        assert out.endswith("s UNKNOWN\n")
+
+
+def test_usual_filters(tmp_path: Path) -> None:
+    """A single solver's proof has a filter for each core that the solver leaves idle."""
+    cores = sorted(os.sched_getaffinity(0))
+    formula = given("random 120 5", tmp_path)
+    for count in {1, 2, len(cores)}:
+        answer = solve(["-v", *by([CADICAL]), formula],
+                       preexec_fn=lambda: os.sched_setaffinity(0, cores[:count]))
+        want_answer(answer, 20)
+        filters = max(1, min(16, count - 1))
+        its = "filter" if filters == 1 else f"{filters} filters"
+        assert re.search(rf"^c solver 1: [\d.]+ s, its {its} ", answer.out, re.M), answer.out
+    answer = solve(["-v", "-j", "1", *by([CADICAL]), formula])
+    assert re.search(r"^c solver 2: [\d.]+ s, its filter ", answer.out, re.M), answer.out
+
+
 # Arguments.
 
 
 NEED = "--solver takes a command with both %formula and %proof, not "
+ONLY = "--filters takes a single --solver, and no engines"
 
 
 @pytest.mark.parametrize("words, cause", [
@@ -446,6 +607,10 @@ NEED = "--solver takes a command with both %formula and %proof, not "
     (["--solver", CADICAL, "--assume", "{cube}"],
      "--assume and --solver: a solver doesn't get the assumptions"),
     (["--solver", CADICAL, "-j", "64"], "more than 64 engines, including solvers"),
+    (["--solver", CADICAL, "--filters", "0"], "--filters takes 1 to 64, not 0"),
+    (["--solver", CADICAL, "--filters", "65"], "--filters takes 1 to 64, not 65"),
+    (["--solver", CADICAL, "-j", "1", "--filters", "2"], ONLY),
+    (["--solver", CADICAL] * 2 + ["--filters", "2"], ONLY), (["--filters", "2"], ONLY),
     (["--solver", CADICAL] * 65, "more than 64 engines, including solvers")])
 def test_refused(words: List[str], cause: str, tmp_path: Path) -> None:
     cube = written("1 0\n", tmp_path, "cube")

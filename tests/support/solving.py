@@ -83,10 +83,10 @@ def solve(words: Sequence[object], tested: Optional[Mapping[str, object]] = None
 
 
 def check(words: Sequence[object], tested: Optional[Mapping[str, object]] = None,
-          **how: Any) -> Answer:
+          more: Optional[Mapping[str, str]] = None, **how: Any) -> Answer:
     program = (TESTED if tested is not None else SOLVE).with_name("lrup-check")
     return Answer(run([str(word) for word in (program, "--lrupd", PROGRAM, *words)],
-                      env=in_environment(tested), **how))
+                      env=in_environment(tested, more), **how))
 
 
 def want_answer(answer: Answer, status: int, formula: Optional[Path] = None,

@@ -109,8 +109,7 @@ static void tell(uint64_t *field, uint64_t value) {
 // Whether the first process waits for this filter to say how far it has come.
 static bool is_asked(void) {
     return filter_has_windows(&filter) && LOAD(own->shared->asking_round) == round_number &&
-           engine_status->asked_round != round_number &&
-           engine_status->ended_round != round_number;
+           engine_status->asked_round != round_number && engine_status->ended_round != round_number;
 }
 
 // Waits until the first process has stored at least the wanted value, or the run or the filter's

@@ -132,7 +132,8 @@ void read_values(Options &options) {
     options.share = !given.no_share;
     int count = int(number("-j", given.engines, 1, MOST_ENGINES, 0));
     (options.check ? options.filters : options.engines) = count;
-    if (given.filters) options.filters = int(number("--filters", given.filters, 1, MOST_ENGINES, 0));
+    if (given.filters)
+        options.filters = int(number("--filters", given.filters, 1, MOST_ENGINES, 0));
     options.share_size = int(number("--share-size", given.share_size, 0, 1000, 4));
     options.seed = int(number("--seed", given.seed, 0, 1000000000, 0));
     options.seconds = seconds("--time", given.time, 0);

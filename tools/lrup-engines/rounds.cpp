@@ -446,8 +446,9 @@ std::string Rounds::map_round() {
     if (test_hooks.same_words) rows.words = before;
     bool fits = make_room(size(saved.old.length, saved.literals));
     if (!fits && teams.leave_next_to_one()) {
-        display.tell_more(teams.name_of_proof(0) + ": the clauses of several filters leave no room, "
-                                                   "so one filter checks it, from its beginning");
+        display.tell_more(teams.name_of_proof(0) +
+                          ": the clauses of several filters leave no room, "
+                          "so one filter checks it, from its beginning");
         fits = make_room(size(saved.old.length, saved.literals));
     }
     if (!fits) return "the remaining clauses leave no room" + in_a_row_of(rows.largest);

@@ -41,8 +41,8 @@ typedef struct {
     // The engine writes:
     int answer;  // 10 or 20, once its proof and the model are written
     uint64_t conflicts, slices, taken, refused, satisfied;
-    int group;            // the process group of a user's solver, until that has ended
-    int unfounded;        // it says 10 without an assignment
+    int group;      // the process group of a user's solver, until that has ended
+    int unfounded;  // it says 10 without an assignment
     // what copies a proof to its filters: bytes that it has copied; of a proof that comes only once,
     // bytes that it has kept so far, and whether it keeps no more
     uint64_t proof_read, proof_kept;

@@ -166,8 +166,8 @@ std::string solver_command(const std::string &command, const std::string &formul
 // A proof that is copied to the pipes of its filters.
 struct Proof {
     std::string path;
-    int file = -1;       // of a proof that comes only once; -1: the path is opened
-    int kept = -1;       // a file that has what was kept of it, and gets more if `keeps`
+    int file = -1;  // of a proof that comes only once; -1: the path is opened
+    int kept = -1;  // a file that has what was kept of it, and gets more if `keeps`
     bool keeps = false;
     std::vector<int> pipes;
 };

@@ -24,6 +24,7 @@
 namespace {
 
 const size_t LONGEST_WORD = 64;  // longer words are cut
+const uint64_t TIMES_LEFT = 3;
 const char SATISFIABLE_LINE[] = "SATISFIABLE", UNSATISFIABLE_LINE[] = "UNSATISFIABLE";
 
 // The lines `s` and `v` of a solver's output, read word by word, since a line may be very long.
@@ -318,7 +319,7 @@ class ProofPipes {
 };
 
 // Keeps the bytes of a proof that comes only once, so that one filter can take the whole proof from
-// several ones. The file never takes more than half of the room that there would be without it.
+// several ones. The file leaves three times as much room as it takes, so that it is in nobody's way.
 class KeptProof {
   public:
     KeptProof(const Proof &proof, EngineStatus &its_status)
@@ -330,7 +331,7 @@ class KeptProof {
         uint64_t before = status.proof_kept, after = before + length,
                  most = hooked(test_hooks.proof_kept, UINT64_MAX);
         bool has_room = fstatvfs(file, &found) == 0 && after <= most &&
-                        after <= uint64_t(found.f_bavail) * found.f_frsize;
+                        after <= uint64_t(found.f_bavail) * found.f_frsize / TIMES_LEFT;
         if (has_room && lseek(file, off_t(before), SEEK_SET) >= 0 && write_all(file, bytes, length))
             return STORE(status.proof_kept, after);
         STORE(status.proof_unkept, 1);
@@ -340,7 +341,8 @@ class KeptProof {
     // How many bytes it reads from this position on; 0 at the end.
     ssize_t read_at(uint64_t position, char *bytes, size_t length) const {
         uint64_t left = file < 0 ? 0 : status.proof_kept - position;
-        return left == 0 ? 0 : pread(file, bytes, std::min<uint64_t>(length, left), off_t(position));
+        return left == 0 ? 0
+                         : pread(file, bytes, std::min<uint64_t>(length, left), off_t(position));
     }
 
   private:
@@ -354,7 +356,8 @@ class KeptProof {
 static int open_proof(const Proof &proof, Unpacking &unpacking) {
     if (proof.file >= 0) return proof.file;
     bool is_packed = proof.path != "-" && packer_of(proof.path.c_str());
-    return is_packed ? unpacking_open(&unpacking, proof.path.c_str()) : open_if_possible(proof.path);
+    return is_packed ? unpacking_open(&unpacking, proof.path.c_str())
+                     : open_if_possible(proof.path);
 }
 
 // Copies a proof, beginning with what was kept of it. Ends once no filter is left: all that it has

@@ -124,8 +124,7 @@ bool Teams::are_stopping() const {
 
 std::vector<Child *> Teams::children() {
     std::vector<Child *> found;
-    for (Team &team : list)
-        found.insert(found.end(), { &team.engine, &team.filter, &team.copier });
+    for (Team &team : list) found.insert(found.end(), { &team.engine, &team.filter, &team.copier });
     return found;
 }
 
@@ -400,8 +399,10 @@ void Teams::start_engine(size_t k) {
     Team &team = list[k];
     int number = int(k) + 1, renamed = -1,
         pipe = team.once.write >= 0 ? team.once.write : team.proof.write;
-    Engine engine = { &inputs.options, &inputs.first_formula, &inputs.assumed, &inputs.cubes,
-                      shared,          outboxes.data(),       &beginning,      team.model,
+    Engine engine = { &inputs.options, &inputs.first_formula,
+                      &inputs.assumed, &inputs.cubes,
+                      shared,          outboxes.data(),
+                      &beginning,      team.model,
                       number,          pipe };
     bool is_proof = inputs.options.check;
     const Proof proof = is_proof ? proof_to_copy(k) : Proof();

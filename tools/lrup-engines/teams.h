@@ -60,8 +60,8 @@ class Teams {
     bool has_windows() const { return filters() > 1 && !is_alone && !awaits_one; }
     // its path, or the solver's command
     const char *proof_of(size_t k) const {
-        return inputs.options.solvers[k / filters() + inputs.options.solvers.size() -
-                                      list.size() / filters()];
+        return inputs.options
+            .solvers[k / filters() + inputs.options.solvers.size() - list.size() / filters()];
     }
     Child &copier_of(size_t k) { return inputs.options.check ? list[k].engine : list[k].copier; }
     std::string why_lost(size_t k) const;
@@ -110,7 +110,7 @@ class Teams {
     // between two rounds: ends the filters of the only proof; false if one can't take it
     bool leave_next_to_one();
     bool have_ended(size_t k, uint64_t round) const;  // this round's streams of the proof
-    uint64_t clauses = 0;        // of the round's formula
+    uint64_t clauses = 0;                             // of the round's formula
 
     std::string lost;                     // why the record is incomplete; empty: it isn't
     void look_at_record();                // sets `lost`
