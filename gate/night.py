@@ -40,7 +40,8 @@ def sanitized(by: str, first: str = "true") -> str:
         export ASAN_OPTIONS=detect_leaks=0:log_path=$work/report
         export TSAN_OPTIONS=log_path=$work/report UBSAN_OPTIONS=log_path=$work/report
         {first} &&
-        make rows TESTS='lrup_solve lrup_solve_cubes lrup_solve_rounds' MORE="--flags='$flags'"
+        make rows TESTS='lrup_solve lrup_solve_cubes lrup_solve_rounds lrup_check_filters' \
+            MORE="--flags='$flags'"
         status=$?
         ! cat "$work"/report* 2> /dev/null || exit 1
         exit $status"""
