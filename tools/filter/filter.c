@@ -363,6 +363,7 @@ static void keep(Filter *filter, const Addition *addition, ClauseRef ref) {
 static void leave_to_another(Filter *filter, const Addition *addition) {
     if (addition->hinted == 0 && !filter->propagation.used)
         propagation_settle(&filter->propagation);
+    if (addition->hinted == 0) propagation_age(&filter->propagation);
     keep(filter, addition,
          clauses_add(&filter->clauses, identity_by_number(filter), filter->literals.items,
                      filter->literals.length, false));
