@@ -573,7 +573,8 @@ def test_killed_with_several_filters(whom: str, tmp_path: Path) -> None:
                 "its beginning\n") in out, out
         assert out.endswith("s UNSATISFIABLE\n"), out
     else:
-        assert "solver 1 is lost: " in out
+        what = "the process that copies its proof" if whom == "copier" else "the solver"
+        assert f"c solver 1 is lost: {what} ended by a signal: Killed" in out, out
         assert out.endswith("s UNKNOWN\n")
 
 

@@ -221,7 +221,7 @@ void Run::look_at_team(size_t k) {
     if (filter.ended()) STORE(facts.gone, 1);
     if (phase != SOLVING || team.told || said == SATISFIABLE) return;
     bool both_ended = team.engine.ended() && filter.ended_with(0);
-    if (leave_to_one(k) || look_at_end(k) || !filter.ended() ||
+    if (leave_to_one(k) || look_at_copier(k) || look_at_end(k) || !filter.ended() ||
         !(both_ended || !filter.ended_with(0)))
         return;
     if (facts.proof_ended && team.engine.running) return;  // the engine ends soon, too
@@ -239,15 +239,23 @@ bool Run::leave_to_one(size_t k) {
     if (teams.awaits_one) return true;
     const EngineStatus &facts = teams.engine_status(teams.decider(k));
     bool has_died = teams.has_died(k),
-         needs_one = teams[teams.decider(k)].filter.ended() && facts.needs_one,
-         is_unread = inputs.options.check && teams[k].engine.ended() &&
-                     teams.engine_status(k).last_words[0];
-    if (!(has_died || needs_one) || is_unread || !teams.can_restart(k)) return false;
+         needs_one = teams[teams.decider(k)].filter.ended() && facts.needs_one;
+    if (!(has_died || needs_one) || teams.is_copied_no_more(k) || !teams.can_restart(k))
+        return false;
     std::string why = has_died ? "a filter " + teams[teams.decider(k)].filter.end() + ", so " : "";
     if (!teams.end_filters(k)) return true;
     display.tell_more(teams.name_of_proof(k) + ": " + why +
                       "one filter checks it, from its beginning");
     rounds.leave_to_one(k);
+    return true;
+}
+
+// Whether what copies a solver's proof has ended too early. The solver would wait for it.
+bool Run::look_at_copier(size_t k) {
+    if (inputs.options.check || !teams.is_copied_no_more(k)) return false;
+    tell_lost(k, "the process that copies its proof " + teams[k].copier.end());
+    teams[k].engine.signal(SIGKILL);
+    teams.end_filters(k);
     return true;
 }
 
@@ -279,10 +287,9 @@ bool Run::look_at_end(size_t k) {
     bool has_cause = teams.engine_status(decider).cause[0];
     bool has_ended =
         team.engine.ended() && (teams[decider].filter.ended_with(0) || !team.engine.ended_with(0));
-    bool is_unread = inputs.options.check && has_ended && facts.last_words[0];
-    bool is_read_no_more = inputs.options.check && !is_unread && teams[decider].filter.ended() &&
-                           !teams[decider].filter.ended_with(0);
-    if (LOAD(facts.answer) != 0 || (has_cause && !is_unread) || !has_ended || is_read_no_more)
+    bool is_unread = inputs.options.check && has_ended && facts.last_words[0],
+         has_no_filter = inputs.options.check && team.engine.ended_with(0);
+    if (LOAD(facts.answer) != 0 || (has_cause && !is_unread) || !has_ended || has_no_filter)
         return false;
     bool unfounded = LOAD(facts.unfounded);
     team.idle = !unfounded && LOAD(facts.lines) == 0 && !is_usual(team.engine);

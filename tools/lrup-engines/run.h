@@ -66,6 +66,7 @@ class Run {
     void look_at_team(size_t k);
     bool look_at_end(size_t k);
     bool leave_to_one(size_t k);
+    bool look_at_copier(size_t k);
     std::string end_of(size_t k) const;
     std::string end_before(size_t k) const;
     void look_at_ends();

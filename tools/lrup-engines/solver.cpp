@@ -360,8 +360,8 @@ static int open_proof(const Proof &proof, Unpacking &unpacking) {
                      : open_if_possible(proof.path);
 }
 
-// Copies a proof, beginning with what was kept of it. Ends once no filter is left: all that it has
-// read until then is kept. An existing proof is copied as if a solver had ended with 20.
+// Copies a proof, beginning with what was kept of it. Ends with 0 once no filter is left: all that it
+// has read until then is kept. An existing proof is copied as if a solver had ended with 20.
 void proof_process(const Engine &engine, const Proof &proof) {
     std::vector<char> bytes(1 << 16);
     ssize_t count = 0;
@@ -369,7 +369,7 @@ void proof_process(const Engine &engine, const Proof &proof) {
     EngineStatus &status = engine.shared->engine_statuses[engine.number - 1];
     KeptProof kept(proof, status);
     auto copy = [&] {
-        if (!pipes.write(bytes.data(), size_t(count))) _exit(1);
+        if (!pipes.write(bytes.data(), size_t(count))) _exit(0);
         STORE(status.proof_read, status.proof_read + uint64_t(count));
     };
     proof_status = &status;
@@ -381,7 +381,7 @@ void proof_process(const Engine &engine, const Proof &proof) {
     int file = count < 0 ? -1 : open_proof(proof, unpacking);
     if (file < 0) end_unread(error_text().c_str());
     for (bool ends = false; !ends;) {
-        if (!pipes.await(file)) _exit(1);
+        if (!pipes.await(file)) _exit(0);
         count = read(file, bytes.data(), bytes.size());
         if (count < 0 && errno != EINTR && errno != EAGAIN) end_unread(error_text().c_str());
         if (count > 0) kept.keep(bytes.data(), size_t(count)), copy();

@@ -589,6 +589,11 @@ bool Teams::have_ended(size_t k, uint64_t round) const {
     return true;
 }
 
+bool Teams::is_copied_no_more(size_t k) const {
+    const Child &copier = copier_of(k);
+    return copier.ended() && !copier.ended_with(0) && !copier.ended_with(UNSATISFIABLE);
+}
+
 bool Teams::can_restart(size_t k) const {
     bool is_kept = list[k].kept >= 0 && !LOAD(engine_status(k).proof_unkept),
          is_there = comes_once(k) ? is_kept : is_read_again(proof_of(k));
@@ -623,7 +628,7 @@ bool Teams::leave_next_to_one() {
     if (!has_windows() || !can_restart(0)) return false;
     end_filters(0);
     for (Team &team : list) wait_for(team.filter);
-    wait_for(copier_of(0));
+    wait_for(inputs.options.check ? list[0].engine : list[0].copier);
     awaits_one = true;
     number_streams();
     return true;

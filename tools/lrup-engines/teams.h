@@ -63,7 +63,9 @@ class Teams {
         return inputs.options
             .solvers[k / filters() + inputs.options.solvers.size() - list.size() / filters()];
     }
-    Child &copier_of(size_t k) { return inputs.options.check ? list[k].engine : list[k].copier; }
+    const Child &copier_of(size_t k) const {
+        return inputs.options.check ? list[k].engine : list[k].copier;
+    }
     std::string why_lost(size_t k) const;
     bool is_any_at_work() const;  // whether a filter is running
     bool is_here(size_t k) const {
@@ -100,6 +102,8 @@ class Teams {
     void choose_end(uint64_t round);
     // whether one of several filters of the proof was killed, perhaps since memory is short
     bool has_died(size_t k) const;
+    // whether what copies the proof has failed, or was killed
+    bool is_copied_no_more(size_t k) const;
     bool can_restart(size_t k) const;
     // the proof's first filter, which then takes the whole proof: now, or once `awaits_one` is set
     // in the next round
