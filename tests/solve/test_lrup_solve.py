@@ -620,13 +620,13 @@ def two_modules(one: str, other: str) -> str:
 @pytest.mark.parametrize("one, other", [("2'bxx", "{2{a}}"), ("{2{a}}", "2'bxx"),
                                         ("{a, w}", "{a, a}"), ("2'b1x", "{2{a}}")])
 def test_an_undefined_bit_differs_from_any_other(one: str, other: str, tmp_path: Path) -> None:
-    """A bit is undefined if it is x, or has no driver. The model names all signals."""
+    """A bit is undefined if it is x, or has no driver. The model names all signals, also those that
+    nothing reads."""
     formula = formula_by(MITERS / "miter.sh", two_modules(one, other), tmp_path)
     answer = solve([formula])
     want_answer(answer, 10, formula)
-    wires = [f"{name}.w" for name, bits in (("one", one), ("other", other)) if "w" in bits]
-    assert sorted(name for name, _ in values_of(formula, answer)) == sorted(
-        ["a", *wires, "one.z", "other.z"])
+    names = sorted(name for name, _ in values_of(formula, answer))
+    assert names == ["a", "one.w", "one.z", "other.w", "other.z"]
 
 
 def test_an_undefined_bit_on_which_no_output_depends(tmp_path: Path) -> None:

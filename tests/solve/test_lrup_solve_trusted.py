@@ -251,7 +251,8 @@ check()
 hears('lrupd')
 import resource
 resource.prlimit(int(front), resource.RLIMIT_FSIZE, 2 * ({len(UNSATISFIABLE)},))"""
-STOPS = COMMON.replace("{", "{{").replace("}", "}}") + """signal.signal(signal.SIGTERM, signal.SIG_IGN)
+STOPS = COMMON.replace("{", "{{").replace("}", "}}") + """\
+signal.signal(signal.SIGTERM, signal.SIG_IGN)
 model({signs!r})
 survives()
 os.kill(int(front), signal.SIGSTOP)
