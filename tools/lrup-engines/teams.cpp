@@ -344,7 +344,7 @@ static bool is_command(const std::string &command) {
 // Refuses a proof that can't be read, and solvers of which none can be run.
 void Teams::check_solvers() const {
     const Options &options = inputs.options;
-    bool any = size_t(options.engines) > options.solvers.size();
+    bool any = options.engines > int(options.solvers.size()) * options.filters;
     for (const char *solver : options.solvers)
         if (options.check)
             look_at_proof(solver), any = true;
