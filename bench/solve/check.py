@@ -4,7 +4,8 @@
     check.py [--rounds N] [--filters 1,2,4] [--formulas 'commute 8,sort 7 4'] CHECK LRUPD
 
 CaDiCaL writes a proof of each formula, which is then checked with each number of filters in turn,
-on the same cores. The shortest time by the clock counts, and the least processor time."""
+on the same cores. The shortest time by the clock counts, and the least processor time. The last
+column compares the last number of filters with CaDiCaL's own time by the clock."""
 import argparse
 import resource
 import subprocess
@@ -24,14 +25,16 @@ def processor_seconds() -> float:
     return used.ru_utime + used.ru_stime
 
 
-def proof_of(words: str, folder: Path) -> Tuple[Path, Path]:
+def proof_of(words: str, folder: Path) -> Tuple[Path, Path, float]:
+    """The files of the formula and its proof, and the seconds by the clock that CaDiCaL took."""
     formula, proof = folder / "formula", folder / "proof"
     with formula.open("w") as file:
         subprocess.run([sys.executable, str(HERE / "formulas.py"), *words.split()], stdout=file,
                        check=True)
+    began = time.monotonic()
     subprocess.run(["cadical", "-q", "-n", str(formula), str(proof)], check=False,
                    stdout=subprocess.DEVNULL)
-    return formula, proof
+    return formula, proof, time.monotonic() - began
 
 
 def measure(words: List[str]) -> Tuple[float, float]:
@@ -53,12 +56,12 @@ def main() -> None:
     parser.add_argument("lrupd")
     given = parser.parse_args()
     filters: List[str] = given.filters.split(",")
-    print("| Formula | Proof, MB |" + "".join(f" {count}, s |" for count in filters)
-          + "".join(f" {count} to {filters[0]} |" for count in filters[1:]) + " processor |\n"
-          + "|---" * (2 * len(filters) + 2) + "|")
+    print("| Formula | Proof, MB | CaDiCaL, s |" + "".join(f" {count}, s |" for count in filters)
+          + "".join(f" {count} to {filters[0]} |" for count in filters[1:])
+          + " processor | to CaDiCaL |\n" + "|---" * (2 * len(filters) + 4) + "|")
     for words in given.formulas.split(","):
         with tempfile.TemporaryDirectory() as folder:
-            formula, proof = proof_of(words, Path(folder))
+            formula, proof, solving = proof_of(words, Path(folder))
             clock: Dict[str, float] = {}
             used: Dict[str, float] = {}
             for _ in range(given.rounds):
@@ -68,10 +71,11 @@ def main() -> None:
                     clock[count] = min(clock.get(count, seconds), seconds)
                     used[count] = min(used.get(count, processor), processor)
             first, last = filters[0], filters[-1]
-            print(f"| {words} | {proof.stat().st_size / 1e6:.0f} |"
+            print(f"| {words} | {proof.stat().st_size / 1e6:.0f} | {solving:.1f} |"
                   + "".join(f" {clock[count]:.1f} |" for count in filters)
                   + "".join(f" {clock[count] / clock[first]:.2f} |" for count in filters[1:])
-                  + f" {used[last] / used[first]:.2f} |", flush=True)
+                  + f" {used[last] / used[first]:.2f} | {clock[last] / solving:.2f} |",
+                  flush=True)
 
 
 if __name__ == "__main__":

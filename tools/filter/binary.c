@@ -19,7 +19,7 @@ enum { MOST_SHIFT = 56, MOST_NUMBERS = 1 << 25 };  // of a step; a longer one is
 // Some solvers write an identity of LRAT as a literal, others as a plain number.
 typedef enum { UNDECIDED, PLAIN, DOUBLED } Coding;
 
-static uint64_t number(Input *input) {
+static uint64_t number_of_bytes(Input *input) {
     uint64_t value = 0;
     for (unsigned shift = 0; shift <= MOST_SHIFT; shift += 7) {
         int byte = input_byte(input);
@@ -28,6 +28,21 @@ static uint64_t number(Input *input) {
         if (byte < 128) return value;
     }
     stop("number too large");
+}
+
+// Most numbers have one or two bytes.
+static inline uint64_t number(Input *input) {
+    const unsigned char *bytes = input->bytes + input->at;
+    size_t unread = input->length - input->at;
+    if (unread >= 1 && bytes[0] < 128) {
+        input->at++;
+        return bytes[0];
+    }
+    if (unread >= 2 && bytes[1] < 128) {
+        input->at += 2;
+        return (bytes[0] & 127u) | (uint64_t)bytes[1] << 7;
+    }
+    return number_of_bytes(input);
 }
 
 static int64_t as_literal(uint64_t number) {

@@ -359,14 +359,15 @@ static void keep(Filter *filter, const Addition *addition, ClauseRef ref) {
     make_known(filter, ref);
 }
 
-// Adds a clause that another filter derives. Without hints, that filter propagates now.
+// Adds a clause that another filter derives. Without hints, that filter propagates now. The clause
+// isn't recent: clauses of other windows are needed less often than those of this filter's own.
 static void leave_to_another(Filter *filter, const Addition *addition) {
     if (addition->hinted == 0 && !filter->propagation.used)
         propagation_settle(&filter->propagation);
-    if (addition->hinted == 0) propagation_age(&filter->propagation);
-    keep(filter, addition,
-         clauses_add(&filter->clauses, identity_by_number(filter), filter->literals.items,
-                     filter->literals.length, false));
+    ClauseRef ref = clauses_add(&filter->clauses, identity_by_number(filter),
+                                filter->literals.items, filter->literals.length, false);
+    clause_at(&filter->clauses, ref)->flags -= RECENT;  // as clauses_add makes it
+    keep(filter, addition, ref);
     if (filter->hooks) filter->hooks->left(filter);
 }
 
