@@ -88,7 +88,6 @@ void Run::end_early(const std::string &why) {
 // Events.
 
 double Run::next_look() const {
-    if (phase == DONE) return inputs.deadline();
     double time = std::min(
         { display.next_show(), checker.next_look(), asked.empty() ? inputs.deadline() : saving });
     if (others) time = std::min(time, others->next_look());
@@ -114,7 +113,7 @@ void Run::wait() {
         files.push_back(file);
     loop.wait(teams.shared->events, files, next_look(), children());
     if (files[0].revents != 0) front.read_on(&checker);
-    if (phase != DONE) checker.look();
+    checker.look();
 }
 
 std::string Run::why_it_ends() {
@@ -372,19 +371,35 @@ std::string Run::end_of_checker() const {
 
 void Run::finish(Answer found, const std::string &why) {
     if (phase == DONE) return;
+    if (saving == 0) saving = now() + SAVING;
     answer = found;
     cause = why;
     phase = DONE;
 }
 
+// Waits for the end of one of these, or for a signal. Nothing is fed any more.
+void Run::wait_at_end(const std::vector<Child *> &list, double time) {
+    std::vector<pollfd> files = { front.says() };
+    loop.wait(teams.shared->events, files, time, list);
+    if (files[0].revents != 0) front.read_on(&checker);
+}
+
+// Ends what isn't needed any more. A round that is being saved may be saved, within a few seconds:
+// the last message says which rounds the record has. Another signal ends the wait.
+void Run::end_solving() {
+    const Child &probe = front.probe.child, &saver = rounds.saver.child;
+    for (Child *child : children())
+        if (child != &probe && child != &saver) child->signal(SIGKILL);
+    while (answer == UNKNOWN_ANSWER && saver.running && !loop.ended_by && now() < saving)
+        wait_at_end(children(), saving);
+}
+
 // If lrupd refuses the formula, the run says so, no matter how early solving ended. A signal or the
 // time limit ends the wait.
 void Run::await_reading() {
-    for (Child *child : children())
-        if (child != &front.probe.child) child->signal(SIGKILL);
     while (answer == UNKNOWN_ANSWER && front.probe.child.running && !is_ended() &&
            now() < inputs.deadline())
-        wait();
+        wait_at_end(children(), inputs.deadline());
     if (answer == UNKNOWN_ANSWER && !is_ended()) look_at_reading();
 }
 
@@ -394,9 +409,7 @@ bool Run::await_end(Child &child) {
     bool goes_on = true;
     while (child.running) {
         front.say("busy");  // so the front waits some seconds more
-        std::vector<pollfd> files = { front.says() };
-        loop.wait(teams.shared->events, files, std::min(time, now() + 1), { &child });
-        if (files[0].revents != 0) front.read_on(&checker);
+        wait_at_end({ &child }, std::min(time, now() + 1));
         goes_on &= !is_ended() && now() < time;
         if (!goes_on) child.signal(SIGTERM);
     }
@@ -461,6 +474,7 @@ int Run::solve(const Elsewhere *elsewhere) {
         if (phase != DONE) display.show();
     }
     if (others) others->end(is_ended());
+    end_solving();
     await_reading();
     end_all();
     send_answer();

@@ -46,7 +46,7 @@ class Run {
     const Elsewhere *others = nullptr;
     double ending = 0;
     std::string asked;  // why the run has to end once its record is saved
-    double saving = 0;  // when it then ends at the latest
+    double saving = 0;  // when it then ends at the latest, and no save is waited for any more
 
     void prepare();
     void await_formula(int file);
@@ -77,6 +77,8 @@ class Run {
     void end_streams();
     void verdict();
     void finish(Answer found, const std::string &why);
+    void wait_at_end(const std::vector<Child *> &list, double time);
+    void end_solving();
     void await_reading();
     bool await_end(Child &child);
     void explain_proof(size_t k, const Keeping::Wait &wait_for_end);
