@@ -36,10 +36,10 @@ static ClauseRef write_lemma(Filter *filter, ClauseRef ref) {
     propagation_need_all(propagation, &filter->literals);
     if (propagation->needed.length > MOST_NEEDED || filter->literals.length > LITERALS_OF_A_LINE)
         filter_stop_too_long(filter);
-    if (filter->hooks) filter->hooks->derives(filter);
+    if (filter->hooks) filter->hooks->before_line(filter);
     propagation_chain(propagation, ref, &filter->chain);
     ClauseRef lemma = filter_write_line(filter, filter_next_identity(filter));
-    if (filter->hooks) filter->hooks->derived(filter);
+    if (filter->hooks) filter->hooks->after_line(filter);
     filter->spare = filter->literals;
     filter->literals = literals;
     filter->marked = marked;

@@ -234,7 +234,7 @@ void Display::details() const {
         tell(format("cubes: %s dealt out, %s refuted, %s handed on from lost engines",
                     grouped(teams.dealer.dealt).c_str(),
                     grouped(teams.all(&EngineStatus::refuted_cubes)).c_str(),
-                    grouped(teams.dealer.handed_on).c_str()));
+                    grouped(teams.dealer.reassigned).c_str()));
     if (teams.answered > 0)
         tell(format("the verdict came %.2f s after an engine's answer", now() - teams.answered));
 }

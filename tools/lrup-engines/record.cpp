@@ -782,10 +782,10 @@ void Saver::end_next() {
 
 std::string Saver::end() {
     end_next();
-    return look();
+    return collect();
 }
 
-std::string Saver::look() {
+std::string Saver::collect() {
     if (now.round == 0 || child.running) return "";
     bool is_saved = child.ended_with(0), has_cause = child.ended_with(UNSAVED);
     is_lost = child.ended_with(LOST);

@@ -51,7 +51,7 @@ std::string version();  // one line
 // processes.cpp: children, pipes and files.
 // ends all children, prints one line on standard error, exits with 1
 [[noreturn]] void refuse(const std::string &cause);
-extern void (*as_it_refuses)();    // refuse calls it, except in children
+extern void (*on_refusal)();       // refuse calls it, except in children
 extern bool another_refuses;       // another process reports the cause, and its end ends this one
 std::string error_text();          // of errno
 double now();                      // seconds
@@ -94,9 +94,9 @@ const pid_t ELSEWHERE = INT_MAX;  // in place of the id of a process that isn't 
 struct Child {
     pid_t pid = 0;
     bool running = false;
-    int status = 0;         // as from wait
-    double seconds = 0;     // processor time
-    bool hands_on = false;  // forwards signals to a program of its own (solver.cpp)
+    int status = 0;                 // as from wait
+    double seconds = 0;             // processor time
+    bool forwards_signals = false;  // forwards signals to a program of its own (solver.cpp)
 
     bool ended() const { return pid != 0 && !running; }
     bool ended_with(int code) const;

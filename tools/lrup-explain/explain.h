@@ -115,7 +115,7 @@ void forget_values(Replay *replay);
 // replay.c
 void replay_all(Replay *replay, const char *formula, const char *folder, const char *const *paths,
                 uint32_t count);
-Line line_at_hand(const Stream *stream, bool *is_whole);
+Line current_line(const Stream *stream, bool *is_whole);
 // the number of the line that derives the clause, if it is the current line or a later one; or 0
 uint64_t line_deriving(const Stream *stream, uint64_t identity);
 // the number of the first line, up to the current one, that deletes the clause; or 0

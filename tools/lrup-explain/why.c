@@ -8,7 +8,7 @@
 #include "line_limits.h"
 #include "explain.h"
 
-enum { MOST_LITERALS = 5, BYTES_BEFORE = 48, BYTES_BEHIND = 16 };
+enum { MOST_LITERALS = 5, BYTES_BEFORE = 48, BYTES_AFTER = 16 };
 
 typedef unsigned long long Printed;
 
@@ -26,13 +26,13 @@ static int tell_byte(unsigned char byte) {
 static void tell_bytes(Line line, bool is_whole, size_t place) {
     size_t length = (size_t)(line.end - line.start),
            first = place > BYTES_BEFORE ? place - BYTES_BEFORE : 0;
-    size_t behind = place + BYTES_BEHIND < length ? place + BYTES_BEHIND : length;
+    size_t end = place + BYTES_AFTER < length ? place + BYTES_AFTER : length;
     int width = printf("      %s", first > 0 ? ".." : "") - 6;
-    for (size_t k = first; k < behind; k++) {
+    for (size_t k = first; k < end; k++) {
         int shown = tell_byte(line.start[k]);
         if (k < place) width += shown;
     }
-    if (behind < length)
+    if (end < length)
         printf("..");
     else if (is_whole && place == length)
         printf("\\n");

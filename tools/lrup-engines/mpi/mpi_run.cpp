@@ -83,12 +83,12 @@ double Peer::next_exchange() const {
 }
 
 // Time is counted in pulses, and something is sent in each pulse.
-double Peer::next_look() const { return std::min(looked + PULSE, next_exchange()); }
+double Peer::next_step() const { return std::min(stepped + PULSE, next_exchange()); }
 
 // Time in which this process itself was stopped counts as one pulse at most.
-void Peer::look() {
-    double time = now(), passed = std::min(time - looked, PULSE);
-    looked = time;
+void Peer::step() {
+    double time = now(), passed = std::min(time - stepped, PULSE);
+    stepped = time;
     for (double &one : silent) one += passed;
     silent[size_t(link.process)] = 0;
     link.step();
