@@ -110,6 +110,8 @@ uint64_t next_identity(const Replay *replay, const Stream *stream);
 enum { CONFLICT = -1, NEITHER = -2 };
 Literal unit_of(const Replay *replay, ClauseRef ref);              // or CONFLICT or NEITHER
 Fault judge(Replay *replay, Stream *stream, const Reading *line);  // call forget_values after it
+// whether the hints of the bad addition are exact in the reverse order
+bool is_right_reversed(const Replay *replay, const Stream *stream);
 void forget_values(Replay *replay);
 
 // replay.c
