@@ -260,7 +260,7 @@ static bool is_rat(Filter *filter) {
     for (ClauseRef ref = 0; follows && (ref = clauses_after(&filter->clauses, ref)) != 0;) {
         const Clause *clause = clause_at(&filter->clauses, ref);
         if (!has_literal(clause, complement)) continue;
-        propagation_take_back(&filter->propagation);
+        propagation_backtrack(&filter->propagation);
         follows = !resolve(filter, clause, complement) ||
                   propagation_conflict(&filter->propagation, literals) != 0;
         literals->length = length;
@@ -328,7 +328,7 @@ static void propagate_chain(Filter *filter, const Addition *addition, uint64_t l
         assert(lemmas < ANY_LEMMAS || filter->chain.length <= IDENTITIES_OF_A_LINE);
         filter->busy = false;
     }
-    propagation_take_back(propagation);
+    propagation_backtrack(propagation);
 }
 
 // Makes a chain from the hints or, if that fails, by unit propagation. NO_CHAIN if the empty clause

@@ -60,9 +60,9 @@ static void give_lemma(Filter *filter, int variable) {
 // Writes the lemma that a clause implies. The clause's literals in `left` stay in the lemma.
 static ClauseRef write_shorter(Filter *filter, ClauseRef ref) {
     Literals *left = &filter->left;
-    propagation_see(&filter->propagation, left, ASSUMED);
+    propagation_mark(&filter->propagation, left, ASSUMED);
     ClauseRef shorter = write_lemma(filter, ref);
-    propagation_see(&filter->propagation, left, UNSEEN);
+    propagation_mark(&filter->propagation, left, UNSEEN);
     left->length = 0;
     PUSH(&filter->lemmas, shorter);
     return shorter;
@@ -301,9 +301,9 @@ ClauseRef lemmas_for(Filter *filter, ClauseRef conflict, uint64_t most) {
     size_t hints = filter->chain.length + propagation->missing.length;
     if (propagation->missing.length > 0) give_units(filter, most);
     if (hints <= IDENTITIES_OF_A_LINE || most < ANY_LEMMAS) return conflict;
-    propagation_see(propagation, &filter->literals, ASSUMED);
+    propagation_mark(propagation, &filter->literals, ASSUMED);
     conflict = split(filter, conflict, propagation->root, WORTH_A_LEMMA + filter->literals.length);
-    propagation_see(propagation, &filter->literals, UNSEEN);
+    propagation_mark(propagation, &filter->literals, UNSEEN);
     return conflict;
 }
 

@@ -53,7 +53,7 @@ bool pack(const std::string &program, const std::string &name) {
 
 // In the packer's process. Streams are removed once the names of the packed ones are on disk.
 [[noreturn]] void pack_all(const std::string &program, const std::vector<std::string> &names) {
-    give_way();
+    raise_oom_score();
     for (const std::string &name : names)
         if (!pack(program, name)) _exit(1);
     int folder = openat(record_folder, ".", O_RDONLY | O_DIRECTORY | O_CLOEXEC);

@@ -25,7 +25,7 @@ namespace {
 std::vector<pid_t> alive;             // this process's children that haven't been waited for
 std::vector<pid_t> forwarding;        // those of them that forward signals
 std::vector<int> opened;              // this process's files
-const unsigned LETTING_ANOTHER = 30;  // seconds
+const unsigned WAIT_FOR_REPORT = 30;  // seconds
 
 // Makes a new file: an old one of that name, or the target of a link, isn't written to.
 int new_file(const std::string &path) {
@@ -48,14 +48,14 @@ void close_all_but(const std::vector<int> &files) {
         if (std::find(files.begin(), files.end(), file) == files.end()) close(file);
 }
 
-bool another_refuses = false;
+bool is_reported_elsewhere = false;
 void (*on_refusal)() = nullptr;
 
 // In any process and thread of the program.
 void refuse(const std::string &cause) {
-    if (another_refuses) sleep(LETTING_ANOTHER);
+    if (is_reported_elsewhere) sleep(WAIT_FOR_REPORT);
     end_children();
-    if (!another_refuses) fprintf(stderr, "%s: %s\n", program_name, one_line(cause).c_str());
+    if (!is_reported_elsewhere) fprintf(stderr, "%s: %s\n", program_name, one_line(cause).c_str());
     if (on_refusal) on_refusal();
     _exit(1);
 }
@@ -260,7 +260,7 @@ void become(const std::vector<std::string> &words, int file) {
 
 // In a child. A run can lose an engine, but not lrupd or the first process. A process may always
 // raise its own score; if that fails, the system chooses as usual.
-void give_way() {
+void raise_oom_score() {
     int file = open("/proc/self/oom_score_adj", O_WRONLY | O_CLOEXEC);
     if (file < 0) return;
     write_all(file, "1000", 4);

@@ -742,7 +742,7 @@ void Saver::start() {
         claim(place_of(name));
     child = Child();
     if (begin(child, "saver", { now.file, record_folder })) {
-        give_way();
+        raise_oom_score();
         std::string lost = bring_streams_to_disk(), why = lost.empty() ? write() : lost;
         snprintf(cause, LONGEST_CAUSE, "%s", why.c_str());
         _exit(!lost.empty() ? LOST : !why.empty() ? UNSAVED : 0);

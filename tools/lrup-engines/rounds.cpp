@@ -68,7 +68,7 @@ void Rounds::begin(const std::string &program) {
     if (!size(clauses, literals)) refuse("the formula leaves no room" + in_a_row_of(rows.largest));
 }
 
-std::string Rounds::beginning() const {
+std::string Rounds::begin_message() const {
     const std::string folder = quoted(inputs.options.record);
     if (inputs.saved.count() == 0) return folder + ": no round was saved, so the run begins anew";
     return folder + ": round " + std::to_string(number) + " begins, with " +

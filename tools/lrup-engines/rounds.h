@@ -33,7 +33,7 @@ class Rounds {
            const Display &its_display)
         : inputs(its_inputs), teams(its_teams), checker(its_checker), display(its_display) {}
     void begin(const std::string &program);  // lrupd's path
-    std::string beginning() const;           // a message about a resumed run
+    std::string begin_message() const;       // a message about a resumed run
     std::string advance();                   // returns why the run can't continue, or ""
     std::string feed(bool is_last);          // feeds lrupd; returns why it can't, or ""
     bool is_behind() const { return checked < number; }  // lrupd still checks earlier rounds

@@ -43,7 +43,7 @@ void Run::prepare() {
     for (size_t k = 0; k < inputs.cubes.size(); k++) teams.dealer.queue.push_back(k);
     if (others) others->begin();
     teams.start(!others);
-    if (inputs.options.resumed) display.tell(rounds.beginning());
+    if (inputs.options.resumed) display.tell(rounds.begin_message());
     for (size_t k = 0; k < teams.size(); k++)
         if (teams.is_solver(k) && k == teams.first_of(k))
             display.tell_more(teams.title(k) + ": " + teams[k].command);
@@ -449,15 +449,15 @@ std::string Run::line_of_answer() const {
 // The front prints the answer itself, if this process doesn't refuse to give one.
 void Run::send_answer() {
     display.hide();
-    if (inputs.options.verbose) display.details();
-    if (inputs.options.verbose && others) others->details();
-    display.lost();
-    display.hints();
-    if (answer == UNKNOWN_ANSWER) display.causes(cause);
+    if (inputs.options.verbose) display.tell_details();
+    if (inputs.options.verbose && others) others->tell_details();
+    display.tell_lost();
+    display.tell_other_hints();
+    if (answer == UNKNOWN_ANSWER) display.tell_causes(cause);
     std::string next = rounds.resume_message();
     if (answer == UNKNOWN_ANSWER && !next.empty()) display.tell(next);
-    display.record();
-    display.summary();
+    display.tell_record();
+    display.tell_summary();
     bool is_refused = answer == UNKNOWN_ANSWER && (!unkept.empty() || !unstarted.empty());
     if (!is_refused) display.report_end(line_of_answer());
     if (answer == SATISFIABLE) tell_model(model);

@@ -14,7 +14,7 @@ struct Elsewhere {
     std::function<std::string()> step;  // in each turn; returns why the run can't continue, or ""
     std::function<double()> next_step;  // when `step` is due at the latest
     std::function<std::vector<pollfd>()> files;  // to wait for
-    std::function<void()> details;               // with -v
+    std::function<void()> tell_details;          // with -v
     std::function<void(bool at_once)> end;
     Child *carrier = nullptr;
 };

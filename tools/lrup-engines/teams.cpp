@@ -276,7 +276,7 @@ void Teams::start_filter(size_t k, uint64_t round) {
     int number = int(k) + 1;
     const std::vector<int> files = { team.proof.read, team.stream, team.spare, record_folder };
     if (!begin(team.filter, "filter " + std::to_string(number), files)) return;
-    give_way();
+    raise_oom_score();
     Filtering filtering = { shared,
                             outboxes.data(),
                             number,
@@ -386,7 +386,7 @@ void Teams::start_copier(size_t k) {
     std::vector<int> files = proof.pipes;
     files.insert(files.end(), { proof.file, proof.kept });
     if (!begin(list[k].copier, "copier", files)) return;
-    give_way();
+    raise_oom_score();
     Engine engine = {};
     engine.options = &inputs.options;
     engine.shared = shared;
@@ -418,7 +418,7 @@ void Teams::start_engine(size_t k) {
     if (renamed >= 0) files.push_back(renamed);
     team.engine.forwards_signals = is_solver(k) && !is_proof;
     if (!begin(team.engine, "engine " + std::to_string(number), files)) return close_file(renamed);
-    give_way();
+    raise_oom_score();
     if (is_proof) proof_process(engine, proof);
     // drops the engine's messages
     if (!inputs.options.verbose) dup2(::open("/dev/null", O_WRONLY), STDERR_FILENO);

@@ -23,7 +23,7 @@ class Leader {
             return is_news(control(), told) ? 0 : std::min(told_at + PULSE, peer.next_step());
         };
         elsewhere.files = [this] { return link.files(); };
-        elsewhere.details = [this] { details(); };
+        elsewhere.tell_details = [this] { tell_details(); };
         elsewhere.end = [this](bool at_once) { end(at_once); };
         elsewhere.carrier = &link.carrier;
     }
@@ -251,7 +251,7 @@ class Leader {
     }
 
     // Some lines that cite a clause of another process could be derived without it, too.
-    void details() const {
+    void tell_details() const {
         for (size_t process = 0, k = 0; process < traffic.size(); process++) {
             const Traffic &one = process == 0 ? peer.exchange.traffic : traffic[process];
             uint64_t lines = 0, citing = 0;

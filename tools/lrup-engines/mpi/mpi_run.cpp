@@ -53,10 +53,10 @@ int solve(int count, char **words) {
     link.open(options.engines);
     int all = 0;
     for (int one : link.engines) all += one;
-    another_refuses = link.process != 0;
+    is_reported_elsewhere = link.process != 0;
     if (all > MOST_ENGINES)
         refuse(format("%d engines in all processes: at most %d", all, int(MOST_ENGINES)));
-    another_refuses = false;
+    is_reported_elsewhere = false;
     options.engines = all;
     return link.process == 0 ? lead(options, link) : follow(options, link);
 }
