@@ -22,8 +22,9 @@ from typing import Callable, Dict, List, NamedTuple, Optional, Sequence, Set, Tu
 import pytest
 
 from faulty import garbled_text, refuted
-from harness import (COMPRESSED, EXAMPLES, EXPLAIN, FOUR, ROOT, SANITIZING, Ran, compiler,
-                     enough_for, example, generated, named, piped, run, sanitized_explain, written)
+from harness import (COMPRESSED, EXAMPLES, EXPLAIN, FOUR, NONE_BAD, ROOT, SANITIZING, Ran,
+                     compiler, enough_for, example, generated, named, piped, run,
+                     sanitized_explain, written)
 from mutations import Mutant
 from rewriting import cut_while_read, withstands
 
@@ -47,6 +48,7 @@ def explain(words: Sequence[object], tmp_path: Path, quick: bool = False) -> Ran
 
 # Reports.
 
+NONE_BAD_OF_STREAMS = NONE_BAD + "; were --lines and --room the same?\n"
 TITLE = re.compile(r"^(?:round \d+, )?stream (\d+) \(.*\), line (\d+): "
                    r"(.+?)(?:, of stream \d+, whose line \d+ is bad"
                    r"|, for a reason of its own: .*)?$", re.M)
@@ -57,7 +59,7 @@ def faults_in(done: Ran) -> Faults:
     found = {int(stream): (int(line), words) for stream, line, words in TITLE.findall(done.out)}
     assert (done.err, done.status) == ("", BAD if found else 0)
     if not found:
-        assert done.out == "no line is bad\n"
+        assert done.out in (NONE_BAD_OF_STREAMS, f"{NONE_BAD}\n")
     return found
 
 
@@ -260,6 +262,31 @@ def test_faulty_streams(program: str, seed: int, tmp_path: Path) -> None:
              tmp_path)
 
 
+REVERSED = "       these hints are right in the reverse order\n"
+
+
+@pytest.mark.seeds(40)
+def test_hints_in_the_reverse_order(program: str, seed: int, tmp_path: Path) -> None:
+    """One line's hints are reversed, perhaps with another fault: lrup-explain says so if lrupd
+    accepts the line as it was."""
+    numbers = random.Random(f"{seed} reversed")
+    found = base(5 * numbers.randrange(BASES // 5))
+    lines = [line.split() for line in found.streams[0].splitlines()]
+    places = [place for place, words in enumerate(lines) if is_addition(words)]
+    several = [place for place in places if len(lines[place][lines[place].index("0"):]) > 4]
+    at = numbers.choice(several or places)
+    if seed % 2:
+        lines[at] = with_other_hints(lines[at], numbers)
+    right, end = lines[:at + 1], lines[at].index("0") + 1
+    wrong = [*lines[:at], [*lines[at][:end], *lines[at][end:-1][::-1], "0"]]
+    formula = written(found.formula, tmp_path)
+    texts = ["".join(" ".join(words) + "\n" for words in some) for some in (right, wrong)]
+    stream = written(texts[0], tmp_path, "right")
+    faults = reported(run([program, "--serial", *enough_for([stream]), formula, stream]))
+    done = compared(program, texts[1:], [], formula, found.clauses, True, tmp_path)
+    assert (REVERSED in done.out) == (faults == {} and faults_in(done) != {}), done.out
+
+
 @pytest.mark.seeds(100)
 def test_a_chain_is_offered_if_only_hints_are_wrong(program: str, seed: int,
                                                     tmp_path: Path) -> None:
@@ -396,6 +423,15 @@ EMPTY = "  derives  the empty clause\n" + HINTS
      + "        5  unread   .. 1 more\n  why: 2 literals are neither true nor false: 1 -2\n"
      "       2 would follow here from 5 (stream 1, line 1), hint 2 of the line, which comes too "
      "late\n  a right chain: 5 3 4\n"),
+    ("in the reverse order", [FIRST + "6 0 4 3 5 0\n"], "",
+     "stream 1 (f1), line 2: not unit 4\n" + EMPTY + row(4, "BAD", "-1? -2?", of_formula(4))
+     + "        3  unread   .. 1 more\n  why: 2 literals are neither true nor false: -1 -2\n"
+     "       2 would follow here from 5 (stream 1, line 1), hint 3 of the line, which comes too "
+     "late\n       these hints are right in the reverse order\n  a right chain: 5 4 3\n"),
+    ("in the reverse order, but for one more", [FIRST + "6 0 1 4 3 5 0\n"], "",
+     "stream 1 (f1), line 2: not unit 1\n" + EMPTY + row(1, "BAD", "1? 2?", of_formula(1))
+     + "        4  unread   .. 2 more\n  why: 2 literals are neither true nor false: 1 2\n"
+     "  a right chain: 5 4 3\n"),
     ("one left out", [FIRST + "6 0 3 4 0\n"], "",
      "stream 1 (f1), line 2: not unit 3\n" + EMPTY + row(3, "BAD", "1? -2?", of_formula(3))
      + "        4  unread\n  why: 2 literals are neither true nor false: 1 -2\n"
@@ -470,7 +506,44 @@ EMPTY = "  derives  the empty clause\n" + HINTS
     ("identity of the formula", ["4 2 0 1 2 0\n"], "",
      "stream 1 (f1), line 1: identity\n  derives  2\n"
      "  why: 4 belongs to the formula, whose clauses are 1 to 4\n"
+     "       all its identities would be right if the formula had 3 clauses; it has 4\n"
      "       valid here: 5, or after a gap 6, 7 and so on\n"),
+    ("one clause too few", ["5 2 0 1 2 0\n", "5 2 0 1 2 0\n9 1 0 1 3 0\n"], "",
+     "stream 2 (f2), line 1: identity\n  derives  2\n"
+     "  why: 5 belongs to stream 1: 2 streams take turns above 4\n"
+     "       all its identities belong to stream 1: are the streams in the solvers' order?\n"
+     "       all its identities would be right if the formula had 3 clauses; it has 4\n"
+     "       valid here: 6, or after a gap 8, 10 and so on\n"),
+    ("one clause too many", ["6 2 0 1 2 0\n", "7 2 0 1 2 0\n", "8 2 0 1 2 0\n"], "",
+     "stream 1 (f1), line 1: identity\n  derives  2\n"
+     "  why: 6 belongs to stream 2: 3 streams take turns above 4\n"
+     "       all its identities would be right if the formula had 5 clauses; it has 4\n"
+     "       valid here: 5, or after a gap 8, 11 and so on\n"
+     "stream 2 (f2), line 1: identity, for a reason of its own: --all says why\n"
+     "stream 3 (f3), line 1: identity, for a reason of its own: --all says why\n"),
+    ("one clause too many, but not at first", ["8 2 0 1 2 0\n", ""], "",
+     "stream 1 (f1), line 1: identity\n  derives  2\n"
+     "  why: 8 belongs to stream 2: 2 streams take turns above 4\n"
+     "       valid here: 5, or after a gap 7, 9 and so on\n"),
+    ("one clause too many, but not later", ["6 2 0 1 2 0\n9 2 0 1 2 0\n", ""], "",
+     "stream 1 (f1), line 1: identity\n  derives  2\n"
+     "  why: 6 belongs to stream 2: 2 streams take turns above 4\n"
+     "       valid here: 5, or after a gap 7, 9 and so on\n"),
+    ("swapped streams of one line", ["6 2 0 1 2 0\n", FIRST], "",
+     "stream 1 (f1), line 1: identity\n  derives  2\n"
+     "  why: 6 belongs to stream 2: 2 streams take turns above 4\n"
+     "       valid here: 5, or after a gap 7, 9 and so on\n"
+     "stream 2 (f2), line 1: identity, for a reason of its own: --all says why\n"),
+    ("numbered as one stream", [FIRST + "6 1 0 1 3 0\n7 -1 0 2 4 0\n", ""], "",
+     "stream 1 (f1), line 2: identity\n  derives  1\n"
+     "  why: 6 belongs to stream 2: 2 streams take turns above 4\n"
+     "       the identities of stream 1 go up by 1, as with 1 stream, but 2 are given: does its "
+     "solver know of all?\n"
+     "       valid here: 7, or after a gap 9, 11 and so on\n"),
+    ("almost as one stream", [FIRST + "6 1 0 1 3 0\n9 -1 0 2 4 0\n", ""], "",
+     "stream 1 (f1), line 2: identity\n  derives  1\n"
+     "  why: 6 belongs to stream 2: 2 streams take turns above 4\n"
+     "       valid here: 7, or after a gap 9, 11 and so on\n"),
     ("identity of another stream", [FIRST + "8 2 0 1 2 0\n", ""], "",
      "stream 1 (f1), line 2: identity\n  derives  2\n"
      "  why: 8 belongs to stream 2: 2 streams take turns above 4\n"
@@ -506,6 +579,19 @@ EMPTY = "  derives  the empty clause\n" + HINTS
      "stream 1 (f1), line 2: identity\n  states   2\n"
      "  why: 5 is this stream's own: an import names a clause of another stream, or of "
      "the formula\n"),
+    ("an import of a stream that isn't given",
+     [FIRST + "8 i 2 0\n9 1 0 1 3 0\n13 -1 0 2 4 0\n", "", ""], "",
+     "stream 1 (f1), line 2: identity\n  states   2\n"
+     "  why: 8 is this stream's own: an import names a clause of another stream, or of "
+     "the formula\n"
+     "       the identities of stream 1 go up by 4, as with 4 streams, but 3 are given: was one "
+     "left out? 8 would be stream 4's\n"),
+    ("an import of a later stream that isn't given",
+     [FIRST + "12 i 2 0\n9 1 0 1 3 0\n13 -1 0 2 4 0\n", "6 2 0 1 2 0\n", ""], "",
+     "stream 1 (f1), line 2: missing 12\n  states   2\n"
+     "  why: 12 belongs to stream 2, and none of its lines derives it\n"
+     "       the identities of stream 1 go up by 4, as with 4 streams, but 3 are given: was one "
+     "left out? 12 would be stream 4's\n"),
     ("an import beyond the last", ["9 i 2 0\n"], "--lines 3",
      "stream 1 (f1), line 1: identity\n  states   2\n"
      "  why: 9 is above 7, the last identity\n       --lines 5 would be enough\n"),
@@ -544,7 +630,7 @@ EMPTY = "  derives  the empty clause\n" + HINTS
      + row(6, "BAD", "-", "stream 1, no such line so far")
      + "  why: 6 belongs to stream 1, this one, and none of its lines derives it\n"
      "       the identities of stream 1 go up by 4, as with 4 streams, but 1 is given: was "
-     "one left out?\n" + RIGHT),
+     "one left out? 6 would be stream 2's\n" + RIGHT),
     ("one stream with a gap", ["5 2 0 1 7 0\n6 2 0 1 2 0\n9 2 0 1 2 0\n"], "",
      "stream 1 (f1), line 1: missing 7\n" + ONE_FALSE
      + row(7, "BAD", "-", "stream 1, no such line so far")
@@ -637,7 +723,7 @@ def test_misspelled_lines(program: str, text: str, words: str, why: str, shown: 
                                      pytest.param(FOUR_SOLVERS, id="four")])
 def test_good_streams(streams: Sequence[str], tmp_path: Path) -> None:
     done = explain([example("bmc.cnf"), *map(example, streams)], tmp_path)
-    assert done == Ran("no line is bad\n", "", 0)
+    assert done == Ran(NONE_BAD_OF_STREAMS, "", 0)
 
 
 # Records of rounds.

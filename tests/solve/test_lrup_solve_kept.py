@@ -17,8 +17,8 @@ from typing import Any, Dict, List, Mapping, NamedTuple, Optional, Sequence, Tup
 
 import pytest
 
-from harness import (EXPLAIN, FILTER, FOUR, LRUP_RECHECK, PACKERS, PROGRAM, ROOT, TRIM, Ran,
-                     by_another, example, generated, named, needs, pack, run, started, until,
+from harness import (EXPLAIN, FILTER, FOUR, LRUP_RECHECK, NONE_BAD, PACKERS, PROGRAM, ROOT, TRIM,
+                     Ran, by_another, example, generated, named, needs, pack, run, started, until,
                      written)
 from lrat import lrat_fault
 from proof_forms import Clause, read_formula
@@ -638,7 +638,7 @@ def test_tools_read_a_packed_record(packed: Packed, tmp_path: Path) -> None:
     assert run([TRIM, "--lrat", "lrat", packed.formula, "d"], cwd=tmp_path).status == 0
     assert lrat_fault(read_formula(packed.formula), (tmp_path / "lrat").read_text()) == ""
     explained = run([EXPLAIN, packed.formula, "d"], cwd=tmp_path)
-    assert explained == Ran("no line is bad\n", "", 0)
+    assert explained == Ran(f"{NONE_BAD}\n", "", 0)
     want_proved(run([LRUP_RECHECK, "--lrupd", PROGRAM, "d"], cwd=tmp_path), packed.formula)
     assert sorted(os.listdir(packed.record)) == names
 

@@ -21,8 +21,8 @@ from harness import (LIMIT, Ran, dimacs, example, generated, named, random_claus
                      written)
 from records import saved_rounds, want_no_other, way_on
 from solving import (EARLY, FRONT, READING, Answer, before_lrupd, check_again, command,
-                     in_environment, is_alive, marked, none_left, of_process, processes_of_run,
-                     solve, want_answer)
+                     engines_refusing, in_environment, is_alive, marked, none_left, of_process,
+                     processes_of_run, solve, want_answer)
 
 pytestmark = pytest.mark.usefixtures("solve_for_tests")
 NAMES = [FRONT, "supervisor", "lrup-engines", "engine 1", "engine 2", "filter 1", "filter 2",
@@ -125,10 +125,8 @@ def has_ended_killed(answer: Answer, kept: Path, formula: Path) -> None:
     """The run has no answer, and says why and, if a round was saved, how to go on."""
     want_answer(answer, 0)
     assert any(line.startswith(KILLED) for line in answer.comments), answer.out
-    saved = saved_rounds(kept) - 1
-    if saved > 0:
-        # The run may not know yet that the last of them has just been saved.
-        assert way_on(answer, kept, formula)[0] in (saved - 1, saved)
+    if saved_rounds(kept) > 1:
+        assert way_on(answer, kept, formula)[0] == saved_rounds(kept) - 1
 
 
 def hard(words: str, work: Path) -> Path:
@@ -220,6 +218,64 @@ def test_a_stream_was_changed(tmp_path: Path) -> None:
             f"{kept} has 1 round, but not what came after: lrup-solve --resume {kept} {formula} "
             "continues the run"]
     assert [line for line in said if line not in answer.comments] == [], answer.out
+
+
+# lrupd is killed while a round is being saved.
+
+
+# The calls with which the saver of one stream's round brings files to disk: the round's two files,
+# the checkpoint, the list, and the folder.
+SIZES, LIST, FOLDER = 1, 4, 5
+BOUND = 6       # seconds for which a run that ends waits for a save
+
+
+def killed_in_a_save(refused: str, signals: Sequence[int], work: Path) -> Tuple[Answer, float]:
+    """A run with one engine whose lrupd is killed once a call of its first saver is late. Then come
+    signals. Also the seconds from then on until the run has ended."""
+    mark, files, formula = marked(work), work / "temporary", generated("pigeons 11", work)
+    files.mkdir()
+    engines, is_late = engines_refusing(refused, work)
+    hooks = {"SAME_WORDS": 1, "FIRST_WORDS": 5000}
+    words = ["--engines", engines, "-j", "1", "--proofs", work / "kept", formula]
+    with started(command(words, hooks), env=in_environment(hooks, {"TMPDIR": str(files)}),
+                 text=True, stdout=subprocess.PIPE, stderr=subprocess.PIPE) as running:
+        until("a call is late", is_late.exists)
+        os.kill(processes_of_run(running.pid)["lrupd"], signal.SIGKILL)
+        begun = time.monotonic()
+        for number in signals:
+            time.sleep(0.3)
+            running.send_signal(number)
+        answer = Answer(Ran(*running.communicate(timeout=LIMIT), running.returncode))
+    seconds = time.monotonic() - begun
+    none_left(mark)
+    until("its files are removed", lambda: not os.listdir(files), SOON)
+    return answer, seconds
+
+
+@pytest.mark.parametrize("call", [SIZES, LIST, FOLDER])
+def test_a_save_is_waited_for(call: int, tmp_path: Path) -> None:
+    """The save ends, and the last message names the round."""
+    answer, _ = killed_in_a_save(f"sync:{call}:2", [], tmp_path)
+    has_ended_killed(answer, tmp_path / "kept", tmp_path / "formula.cnf")
+    assert saved_rounds(tmp_path / "kept") == 2
+    assert not any(" couldn't be saved" in line for line in answer.comments), answer.out
+
+
+def test_a_save_that_hangs(tmp_path: Path) -> None:
+    """The run ends nevertheless, and says that the round wasn't saved."""
+    answer, seconds = killed_in_a_save(f"sync:{SIZES}:60", [], tmp_path)
+    has_ended_killed(answer, tmp_path / "kept", tmp_path / "formula.cnf")
+    assert saved_rounds(tmp_path / "kept") == 1
+    assert "round 1 couldn't be saved: its process ended by a signal: Killed" in answer.comments
+    assert BOUND - 1 < seconds < 3 * BOUND
+
+
+def test_signals_during_a_save_that_hangs(tmp_path: Path) -> None:
+    """The second signal ends the run at once."""
+    answer, seconds = killed_in_a_save(f"sync:{SIZES}:60", [signal.SIGTERM, signal.SIGINT],
+                                       tmp_path)
+    assert (answer.answers, answer.said, answer.status) == (["s UNKNOWN"], "", -signal.SIGTERM)
+    assert seconds < BOUND - 1
 
 
 # Programs in lrupd's place.

@@ -17,8 +17,8 @@ from typing import Dict, List, Optional, Sequence
 
 import pytest
 
-from harness import (EXPLAIN, LIMIT, LRUP_RECHECK, PROGRAM, Ran, generated, needs, pack, run,
-                     started, until, written)
+from harness import (EXPLAIN, LIMIT, LRUP_RECHECK, NONE_BAD, PROGRAM, Ran, generated, needs, pack,
+                     run, started, until, written)
 from records import (checkpoints, killed_once, only_with, recorded, saved_rounds, way_on,
                      whole)
 from solving import (Answer, children_of, command, in_environment, is_alive, listed, none_left,
@@ -106,7 +106,7 @@ def want_proved(kept: Path, formula: Path, work: Path) -> None:
     unpacked streams."""
     want_tidy(kept)
     whole(kept, formula, work)
-    assert run([EXPLAIN, formula, kept]) == Ran("no line is bad\n", "", 0)
+    assert run([EXPLAIN, formula, kept]) == Ran(f"{NONE_BAD}\n", "", 0)
     done = run([LRUP_RECHECK, "--lrupd", PROGRAM, kept])
     assert (done.err, done.status) == ("", 0)
     assert done.out.splitlines()[-1] == "s UNSATISFIABLE"

@@ -21,10 +21,9 @@ from harness import (COUNT, FOUR, LIMIT, PROGRAM, ROOT, Ran, dimacs, generated, 
                      random_clauses, run, started, until, written)
 from records import (CHANGES, UNKNOWN, checkpoints, recorded, saved_rounds, want_no_other,
                      way_on, whole, with_digests)
-from refused import refusing
-from solving import (ANSWERS, EARLY, SOLVE, TESTED, Answer, before_lrupd, check_again, children_of,
-                     command, end_all, end_group, in_environment, listed, marked, none_left, solve,
-                     want_answer)
+from solving import (ANSWERS, EARLY, SOLVE, Answer, before_lrupd, check_again, children_of, command,
+                     end_all, end_group, engines_refusing, in_environment, listed, marked,
+                     none_left, solve, want_answer)
 
 pytestmark = pytest.mark.usefixtures("solve_for_tests")
 SMALL = {"SAME_WORDS": 1, "SLICE": 20, "FIRST_WORDS": 4000}
@@ -584,13 +583,11 @@ def test_not_on_disk(tmp_path: Path) -> None:
     """A round's file that can't be brought to disk may have lost bytes: what was saved before it
     stays, and a comment says so. Each saver's first call is refused."""
     marked(tmp_path)
-    formula, kept, mark = generated("pigeons 11", tmp_path), tmp_path / "kept", tmp_path / "refused"
+    formula, kept = generated("pigeons 11", tmp_path), tmp_path / "kept"
     recorded(["-j", "1", formula], kept, 2, SMALL)
     rounds, names = saved_rounds(kept), [f"checkpoint-{saved_rounds(kept)}.cnf", "rounds.sha256"]
     before = {name: (kept / name).read_bytes() for name in names}
-    engines = written(f"#!/bin/sh\nexport LD_PRELOAD={refusing()} REFUSE=sync:1:EIO MARK={mark}\n"
-                      f"exec {TESTED.with_name('lrup-engines')} \"$@\"\n", tmp_path, "engines")
-    engines.chmod(0o755)
+    engines, mark = engines_refusing("sync:1:EIO", tmp_path)
     answer = solve(["--engines", engines, "-j", "1", "--time", "4", "--resume", kept, formula],
                    tested=SMALL)
     assert mark.exists()

@@ -54,6 +54,8 @@ BEGUN = time.monotonic()
 RT: Optional[str] = None
 LIMIT = 300  # seconds after which a run counts as hanging, even on a slow and busy machine
 FOUR = "p cnf 2 4\n1 2 0\n-1 2 0\n1 -2 0\n-1 -2 0\n"
+# What lrup-explain prints if no line is bad; without a folder, it also asks about sizes.
+NONE_BAD = "no line is bad\n  if lrupd found one: missing and retired may depend on time"
 # The first bytes of files that these programs unpack.
 COMPRESSED = {"zcat": b"\x1f\x8b\x08\0", "xzcat": b"\xfd7zXZ\0", "bzcat": b"BZh9",
               "zstdcat": b"\x28\xb5\x2f\xfd"}

@@ -13,7 +13,8 @@
      create:N:HOW   an open with O_EXCL; HOW is EACCES, EMFILE or ENOSPC. With SIGTERM the file is
                     created, and then the program gets this signal
      hold:N:HOW     an open of /dev/null before any other file is opened; HOW is EMFILE
-     sync:N:HOW     fsync and fdatasync; HOW is EIO or ENOSPC
+     sync:N:HOW     fsync and fdatasync; HOW is EIO, ENOSPC, or after how many seconds the call is
+                    made
    A tool for tests, not part of the program. */
 #define _GNU_SOURCE
 #include <dlfcn.h>
@@ -207,7 +208,14 @@ int open(const char *path, int flags, ...) {
 extern int open64(const char *, int, ...) __attribute__((alias("open")));
 extern int openat64(int, const char *, int, ...) __attribute__((alias("openat")));
 
-int fsync(int file) { return is_refused(SYNC) ? (int)allowed(0) : (int)syscall(SYS_fsync, file); }
-int fdatasync(int file) {
-    return is_refused(SYNC) ? (int)allowed(0) : (int)syscall(SYS_fdatasync, file);
+static int sync_by(long call, int file) {
+    long seconds = strtol(how, NULL, 10);
+    if (is_refused(SYNC)) {
+        if (seconds == 0) return (int)allowed(0);
+        sleep_for(1000 * seconds);
+    }
+    return (int)syscall(call, file);
 }
+
+int fsync(int file) { return sync_by(SYS_fsync, file); }
+int fdatasync(int file) { return sync_by(SYS_fdatasync, file); }

@@ -20,6 +20,7 @@ import pytest
 from harness import (BUILDS, FLAGS, MODEL, OUT, PROGRAM, ROOT, USUAL_FLAGS, VERDICTS, Ran, alone,
                      dimacs, is_newer, lacking, random_clauses, run, until, written)
 from proof_forms import read_formula
+from refused import refusing
 
 COMPILERS = [os.environ.get(name, "") for name in ("CC", "CXX")]
 # Where `make` builds: the usual place, unless there are --flags; and for tests, with hooks.
@@ -177,6 +178,16 @@ def before_lrupd(what: str, work: Path) -> Path:
     return in_place_of_lrupd(
         f"case \"$*\" in *' /dev/null') ;; *) {what};; esac\nexec {shlex.quote(PROGRAM)} \"$@\"",
         work)
+
+
+def engines_refusing(refused: str, work: Path) -> Tuple[Path, Path]:
+    """lrup-engines, built for tests, in which a call is refused or late, as refuse.c describes it;
+    each process counts its own calls. Also the file that exists from then on."""
+    mark = work / "refused"
+    engines = written(f"#!/bin/sh\nexport LD_PRELOAD={refusing()} REFUSE={refused} MARK={mark}\n"
+                      f"exec {TESTED.with_name('lrup-engines')} \"$@\"\n", work, "engines")
+    engines.chmod(0o755)
+    return engines, mark
 
 
 # Processes.

@@ -79,12 +79,13 @@ static void drat_step(Filter *filter, Input *input, int letter, Numbers *list) {
 static void sharing_step(Filter *filter, Input *input, int letter, Numbers *list) {
     uint64_t engine = number(input), position = number(input);
     if (letter == 'r') {
-        filter->hooks->passed(engine, position);
+        filter->hooks->raise_floor(engine, position);
         return;
     }
     numbers(input, list);
     decode(list, 0, list->length, DOUBLED);
-    filter_take_over(filter, filter->hooks->gift(engine, position), list->items, list->length);
+    filter_take_over(filter, filter->hooks->identity_of_gift(engine, position), list->items,
+                     list->length);
 }
 
 static bool has_odd(const Numbers *list, size_t start) {

@@ -38,7 +38,8 @@ void filter_open(Filter *filter, bool frat) {
     hints_open(&filter->hints, &filter->clauses, formula->variables);
     for (size_t k = 0; k < formula->clauses; k++) {
         uint64_t length = formula->starts.items[k + 1] - formula->starts.items[k];
-        if (filter->hooks && filter->hooks->lacks && filter->hooks->lacks(k, length)) continue;
+        if (filter->hooks && filter->hooks->solver_lacks && filter->hooks->solver_lacks(k, length))
+            continue;
         formula_clause(formula, k, literals);
         bool tautology = literals_clash(literals->items, literals->length);
         ClauseRef ref =
@@ -259,7 +260,7 @@ static bool is_rat(Filter *filter) {
     for (ClauseRef ref = 0; follows && (ref = clauses_after(&filter->clauses, ref)) != 0;) {
         const Clause *clause = clause_at(&filter->clauses, ref);
         if (!has_literal(clause, complement)) continue;
-        propagation_take_back(&filter->propagation);
+        propagation_backtrack(&filter->propagation);
         follows = !resolve(filter, clause, complement) ||
                   propagation_conflict(&filter->propagation, literals) != 0;
         literals->length = length;
@@ -310,7 +311,7 @@ static _Noreturn void stop_without_conflict(Filter *filter, const Addition *addi
 }
 
 // Finds a chain by unit propagation. A round may end before each lemma that the chain needs.
-static void look_for_chain(Filter *filter, const Addition *addition, uint64_t lemmas) {
+static void propagate_chain(Filter *filter, const Addition *addition, uint64_t lemmas) {
     Propagation *propagation = &filter->propagation;
     ClauseRef conflict = propagation_conflict(propagation, &filter->literals);
     if (conflict == 0) stop_without_conflict(filter, addition);
@@ -321,13 +322,13 @@ static void look_for_chain(Filter *filter, const Addition *addition, uint64_t le
                filter->chain.length > IDENTITIES_OF_A_LINE) {
         filter->busy = true;
         conflict = lemmas_for(filter, conflict, lemmas);
-        if (filter->hooks) filter->hooks->derives(filter);
+        if (filter->hooks) filter->hooks->before_line(filter);
         if (!propagation_trace(propagation, &filter->literals, conflict, &filter->chain))
             propagation_trace_all(propagation, &filter->literals, conflict, &filter->chain);
         assert(lemmas < ANY_LEMMAS || filter->chain.length <= IDENTITIES_OF_A_LINE);
         filter->busy = false;
     }
-    propagation_take_back(propagation);
+    propagation_backtrack(propagation);
 }
 
 // Makes a chain from the hints or, if that fails, by unit propagation. NO_CHAIN if the empty clause
@@ -341,7 +342,7 @@ static Found find_chain(Filter *filter, const Addition *addition) {
         propagation_settle(&filter->propagation);
         if (lemmas > 0 && filter->propagation.conflict != 0)
             return lemmas_refute(filter, lemmas), NO_CHAIN;
-        look_for_chain(filter, addition, lemmas);
+        propagate_chain(filter, addition, lemmas);
         found = SOME_CHAIN;
         hints = filter->chain.length;
     }
@@ -368,7 +369,7 @@ static void leave_to_another(Filter *filter, const Addition *addition) {
                                 filter->literals.items, filter->literals.length, false);
     clause_at(&filter->clauses, ref)->flags -= RECENT;  // as clauses_add makes it
     keep(filter, addition, ref);
-    if (filter->hooks) filter->hooks->left(filter);
+    if (filter->hooks) filter->hooks->after_other_clause(filter);
 }
 
 static void derive(Filter *filter, const Addition *addition) {
@@ -378,13 +379,13 @@ static void derive(Filter *filter, const Addition *addition) {
     ClauseRef ref = add_clause(filter, new_identity(filter, addition));
     keep(filter, addition, ref);
     write_addition(filter, addition, found);
-    if (filter->hooks) filter->hooks->derived(filter);
+    if (filter->hooks) filter->hooks->after_line(filter);
     forget_lemmas(filter);
 }
 
 static void add(Filter *filter, const Addition *addition) {
     filter->named |= addition->named;
-    if (filter->hooks) filter->hooks->derives(filter);
+    if (filter->hooks) filter->hooks->before_line(filter);
     if (filter_has_windows(filter) && filter_owner(filter) != filter->windows.number)
         leave_to_another(filter, addition);
     else

@@ -20,18 +20,19 @@ typedef struct Filter Filter;
 
 // Callbacks of a program that contains the filter.
 typedef struct {
-    bool (*ends)(void);  // before each step: whether to stop reading the proof
+    bool (*should_stop)(void);  // before each step: whether to stop reading the proof
     // before the search for a chain; the clause: filter->literals
-    void (*derives)(const Filter *filter);
+    void (*before_line)(const Filter *filter);
     // once the line is in the buffer; its identity: filter->last
-    void (*derived)(const Filter *filter);
+    void (*after_line)(const Filter *filter);
     // once a clause was added that another filter of the proof derives; the clause: as above
-    void (*left)(const Filter *filter);
+    void (*after_other_clause)(const Filter *filter);
     // the identity of the clause that the engine gave away at this position
-    uint64_t (*gift)(uint64_t engine, uint64_t position);
-    void (*passed)(uint64_t engine, uint64_t position);  // no earlier clause will be taken over
+    uint64_t (*identity_of_gift)(uint64_t engine, uint64_t position);
+    void (*raise_floor)(uint64_t engine,
+                        uint64_t position);  // no earlier clause will be taken over
     // whether the solver starts without this clause; NULL: it has all clauses
-    bool (*lacks)(uint64_t clause, uint64_t length);
+    bool (*solver_lacks)(uint64_t clause, uint64_t length);
 } Hooks;
 
 // For a literal that a chain needs: how many clauses of the chain use it, and how many hints derive
@@ -91,7 +92,7 @@ void filter_check(const Filter *filter);
 
 static inline bool filter_ends(const Filter *filter) {
     CHECK(filter_check(filter));
-    return filter->hooks && filter->hooks->ends();
+    return filter->hooks && filter->hooks->should_stop();
 }
 
 void filter_open(Filter *filter, bool frat);

@@ -36,10 +36,10 @@ static ClauseRef write_lemma(Filter *filter, ClauseRef ref) {
     propagation_need_all(propagation, &filter->literals);
     if (propagation->needed.length > MOST_NEEDED || filter->literals.length > LITERALS_OF_A_LINE)
         filter_stop_too_long(filter);
-    if (filter->hooks) filter->hooks->derives(filter);
+    if (filter->hooks) filter->hooks->before_line(filter);
     propagation_chain(propagation, ref, &filter->chain);
     ClauseRef lemma = filter_write_line(filter, filter_next_identity(filter));
-    if (filter->hooks) filter->hooks->derived(filter);
+    if (filter->hooks) filter->hooks->after_line(filter);
     filter->spare = filter->literals;
     filter->literals = literals;
     filter->marked = marked;
@@ -60,9 +60,9 @@ static void give_lemma(Filter *filter, int variable) {
 // Writes the lemma that a clause implies. The clause's literals in `left` stay in the lemma.
 static ClauseRef write_shorter(Filter *filter, ClauseRef ref) {
     Literals *left = &filter->left;
-    propagation_see(&filter->propagation, left, ASSUMED);
+    propagation_mark(&filter->propagation, left, ASSUMED);
     ClauseRef shorter = write_lemma(filter, ref);
-    propagation_see(&filter->propagation, left, UNSEEN);
+    propagation_mark(&filter->propagation, left, UNSEEN);
     left->length = 0;
     PUSH(&filter->lemmas, shorter);
     return shorter;
@@ -301,9 +301,9 @@ ClauseRef lemmas_for(Filter *filter, ClauseRef conflict, uint64_t most) {
     size_t hints = filter->chain.length + propagation->missing.length;
     if (propagation->missing.length > 0) give_units(filter, most);
     if (hints <= IDENTITIES_OF_A_LINE || most < ANY_LEMMAS) return conflict;
-    propagation_see(propagation, &filter->literals, ASSUMED);
+    propagation_mark(propagation, &filter->literals, ASSUMED);
     conflict = split(filter, conflict, propagation->root, WORTH_A_LEMMA + filter->literals.length);
-    propagation_see(propagation, &filter->literals, UNSEEN);
+    propagation_mark(propagation, &filter->literals, UNSEEN);
     return conflict;
 }
 

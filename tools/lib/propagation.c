@@ -268,7 +268,7 @@ static void mark_units(Propagation *propagation, Identities *chain) {
     missing->length = kept;
 }
 
-void propagation_see(Propagation *propagation, const Literals *literals, unsigned char what) {
+void propagation_mark(Propagation *propagation, const Literals *literals, unsigned char what) {
     for (size_t k = 0; k < literals->length; k++)
         propagation->seen[variable_of(literals->items[k])] = what;
 }
@@ -329,7 +329,7 @@ void propagation_need_all(Propagation *propagation, Literals *met) {
         qsort(needed->items, needed->length, sizeof *needed->items, by_position);
     for (size_t k = 0; k < needed->length; k++)
         propagation->seen[variable_of(propagation->trail.items[needed->items[k]])] = UNSEEN;
-    propagation_see(propagation, met, ASSUMED);
+    propagation_mark(propagation, met, ASSUMED);
 }
 
 // Makes a chain of the reasons at the needed positions, with the clause last.
@@ -347,10 +347,10 @@ void propagation_trace_all(Propagation *propagation, const Literals *literals, C
                            Identities *chain) {
     Literals met = { 0 };
     propagation->needed.length = 0;
-    propagation_see(propagation, literals, ASSUMED);
+    propagation_mark(propagation, literals, ASSUMED);
     propagation_need(propagation, conflict, &met);
     propagation_need_all(propagation, &met);
-    propagation_see(propagation, literals, UNSEEN);
+    propagation_mark(propagation, literals, UNSEEN);
     propagation_chain(propagation, conflict, chain);
     met.items = grow(met.items, 0);
 }
@@ -371,7 +371,7 @@ static ClauseRef first_reason(const Propagation *propagation, const Literals *li
     return reason;
 }
 
-void propagation_take_back(Propagation *propagation) {
+void propagation_backtrack(Propagation *propagation) {
     while (propagation->trail.length > propagation->root) {
         Literal literal = propagation->trail.items[--propagation->trail.length];
         propagation->values[literal] = propagation->values[complement_of(literal)] = 0;

@@ -47,7 +47,7 @@ void propagation_open(Propagation *propagation, Clauses *clauses, int variables)
 void propagation_settle(Propagation *propagation);
 // leaves the assumptions on the trail
 ClauseRef propagation_conflict(Propagation *propagation, const Literals *literals);
-void propagation_take_back(Propagation *propagation);
+void propagation_backtrack(Propagation *propagation);
 // ages the clauses, but only once in many calls, so that this takes little time; call for each chain
 // that another filter looks for
 void propagation_age(Propagation *propagation);
@@ -55,7 +55,7 @@ bool propagation_trace(Propagation *propagation, const Literals *literals, Claus
                        Identities *chain);
 void propagation_trace_all(Propagation *propagation, const Literals *literals, ClauseRef conflict,
                            Identities *chain);
-void propagation_see(Propagation *propagation, const Literals *literals, unsigned char what);
+void propagation_mark(Propagation *propagation, const Literals *literals, unsigned char what);
 void propagation_need(Propagation *propagation, ClauseRef ref, Literals *met);
 void propagation_need_all(Propagation *propagation, Literals *met);
 void propagation_chain(const Propagation *propagation, ClauseRef ref, Identities *chain);

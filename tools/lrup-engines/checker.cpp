@@ -95,32 +95,32 @@ void Front::find(int &count, char **&words) {
 // the inode of the pipe.
 std::vector<std::string> Front::words() const {
     struct stat found;
-    if (fstat(file, &found) != 0) refuse("cannot find lrup-solve: " + error_text());
+    if (fstat(incoming, &found) != 0) refuse("cannot find lrup-solve: " + error_text());
     return { "--front", given, std::to_string(found.st_ino) };
 }
 
 // Opens the front's pipes through their names in /proc.
 void Front::open() {
     struct stat found;
-    file = ::open(name(from_front).c_str(), O_RDONLY | O_NONBLOCK | O_CLOEXEC);
-    bool is_its = file >= 0 && fstat(file, &found) == 0 && S_ISFIFO(found.st_mode) &&
+    incoming = ::open(name(from_front).c_str(), O_RDONLY | O_NONBLOCK | O_CLOEXEC);
+    bool is_its = incoming >= 0 && fstat(incoming, &found) == 0 && S_ISFIFO(found.st_mode) &&
                   (number == 0 || number == found.st_ino);
-    if (is_its) heard = ::open(name(to_front).c_str(), O_WRONLY | O_CLOEXEC);
-    if (heard < 0) refuse("cannot find lrup-solve, which has to be on the host of process 0");
-    kept_open(file);
-    kept_open(heard);
-    as_it_refuses = [] { front.say("refused"); };
+    if (is_its) outgoing = ::open(name(to_front).c_str(), O_WRONLY | O_CLOEXEC);
+    if (outgoing < 0) refuse("cannot find lrup-solve, which has to be on the host of process 0");
+    kept_open(incoming);
+    kept_open(outgoing);
+    on_refusal = [] { front.say("refused"); };
 }
 
 void Front::say(const std::string &line) const {
     std::string block = line.substr(0, BLOCK);
     block.resize(BLOCK);
-    while (heard >= 0 && write(heard, block.data(), BLOCK) < 0 && errno == EINTR) {}
+    while (outgoing >= 0 && write(outgoing, block.data(), BLOCK) < 0 && errno == EINTR) {}
 }
 
 bool Front::has_unread() const {
     int bytes = 0;
-    return heard >= 0 && ioctl(heard, FIONREAD, &bytes) == 0 && bytes > 0;
+    return outgoing >= 0 && ioctl(outgoing, FIONREAD, &bytes) == 0 && bytes > 0;
 }
 
 // Reads the formula while engines begin, so that a text that lrupd refuses is refused early. Nothing
@@ -154,9 +154,9 @@ double Front::checking() const {
 void Front::read_on(Checker *checker) {
     char bytes[4096];
     ssize_t count = -1;
-    while (file >= 0 && (count = read(file, bytes, sizeof bytes)) > 0)
+    while (incoming >= 0 && (count = read(incoming, bytes, sizeof bytes)) > 0)
         unread.append(bytes, size_t(count));
-    if (file >= 0 && count == 0) end_children(), _exit(1);  // the front is gone
+    if (incoming >= 0 && count == 0) end_children(), _exit(1);  // the front is gone
     for (size_t end; (end = unread.find('\n')) != std::string::npos; unread.erase(0, end + 1)) {
         std::string line = unread.substr(0, end), name = line.substr(0, line.find(' ')),
                     rest = line.substr(line.find(' ') + 1);
@@ -168,7 +168,7 @@ void Front::read_on(Checker *checker) {
 std::string Front::await_refusal(double deadline) {
     int end = probe.child.running ? pidfd_open(probe.child.pid, 0) : -1;
     while (probe.child.running && stopped.empty() && now() < deadline) {
-        pollfd list[] = { says(), { end, POLLIN, 0 } };
+        pollfd list[] = { to_poll(), { end, POLLIN, 0 } };
         poll(list, 2, milliseconds_to(deadline));
         if (list[0].revents != 0) read_on(nullptr);
         if (list[1].revents != 0) wait_for(probe.child);
@@ -237,7 +237,7 @@ void Checker::await_opening(const std::string &path) {
 }
 
 // A pipe can be opened for writing once lrupd has opened it, and nothing else shows that.
-void Checker::look() {
+void Checker::open_pipes() {
     for (; !unopened.empty(); unopened.pop_front()) {
         const std::string &path = unopened.front();
         bool is_of_sizes = path == next + ".sizes";
@@ -253,7 +253,7 @@ void Checker::look() {
 
 // Waits a tenth as long as it has waited so far: lrupd opens streams at once, but sizes only after
 // it has saved a round.
-double Checker::next_look() const {
+double Checker::next_opening() const {
     return unopened.empty() ? INFINITY
                             : now() + std::min(LONGEST_PAUSE, (now() - waits_since) / 10);
 }

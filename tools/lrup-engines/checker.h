@@ -31,8 +31,8 @@ class Checker {
     bool awaits_sizes() const { return sizes >= 0; }
     void begin_round(Row row, const std::vector<int> &files);
 
-    void look();                             // opens the pipes that lrupd has opened
-    double next_look() const;                // INFINITY: it needn't open another one
+    void open_pipes();                       // opens the pipes that lrupd has opened
+    double next_opening() const;             // INFINITY: it needn't open another one
     std::vector<pollfd> full_pipes() const;  // to wait until they have room, or empty ones bytes
     // feeds the file up to this byte; true once all of that has been fed
     bool feed(size_t stream, uint64_t bytes, bool drop);
@@ -86,7 +86,7 @@ struct Front {
     void find(int &count, char **&words);    // from LRUP_FRONT, or from words, which it removes
     std::vector<std::string> words() const;  // for a process that MPI starts
     void open();                             // in one process only
-    pollfd says() const { return { file, POLLIN, 0 }; }
+    pollfd to_poll() const { return { incoming, POLLIN, 0 }; }
     bool is_there() const { return pid != 0; }
     bool is_elsewhere() const { return number != 0; }  // found by words, perhaps on another host
     void say(const std::string &line) const;           // cut if it is too long
@@ -100,7 +100,7 @@ struct Front {
   private:
     int pid = 0, from_front = -1, to_front = -1;  // its descriptors
     uint64_t number = 0;                          // the inode of its pipe to us; 0: unknown
-    int file = -1, heard = -1;                    // pipes: from the front, and to it
+    int incoming = -1, outgoing = -1;             // pipes: from the front, and to it
     std::string given, unread;
 
     std::string name(int number_of_file) const {

@@ -56,15 +56,16 @@ void Cubes::keep_variables() {
         }
 }
 
-bool Cubes::looks() const {
+bool Cubes::counts_variables() const {
     return takes && is_first() && LOAD(engine.shared->variable_count) == 0;
 }
 
 void Cubes::count_conflict() { bump *= BUMP; }
 
-void Cubes::look(const std::vector<unsigned char> &gone) {
+void Cubes::end_slice(const std::vector<unsigned char> &gone) {
     if (!takes) return;
-    if (looks() && (engine_status.conflicts >= LEARNING || test_hooks.slice)) tell_variables(gone);
+    if (counts_variables() && (engine_status.conflicts >= LEARNING || test_hooks.slice))
+        tell_variables(gone);
     if (LOAD(engine.shared->variable_count) != 0) {
         if (!engine_status.ready) get_ready(gone);
         tell_usable();
@@ -155,7 +156,7 @@ void Dealer::deal(Shared &shared, const Options &options) {
     for (int k = shared.first_here; k < end; k++) {
         EngineStatus &engine_status = shared.engine_statuses[k];
         bool stays = k == shared.first_here && queue.empty();
-        if (!is_idle(shared, k) || stays || hand_on(shared, end, engine_status)) continue;
+        if (!is_idle(shared, k) || stays || reassign(shared, end, engine_status)) continue;
         if (!queue.empty()) {
             give(engine_status, int(queue.front()) + 1, {});
             queue.pop_front();
@@ -176,13 +177,13 @@ bool Dealer::is_idle(const Shared &shared, int k) {
     return true;
 }
 
-bool Dealer::hand_on(Shared &shared, int end, EngineStatus &idle) {
+bool Dealer::reassign(Shared &shared, int end, EngineStatus &idle) {
     for (int k = shared.first_here; k < end; k++) {
         EngineStatus &other = shared.engine_statuses[k];
         if (!has_cube(other) || !LOAD(other.gone)) continue;
         give(idle, other.cube_of_file, literals_of(other));
         STORE(other.cube_number, 0);
-        handed_on++;
+        reassigned++;
         return true;
     }
     return false;

@@ -32,12 +32,12 @@ class Cubes {
 
     void keep_variables();  // freezes the variables of the user's cubes, before solving
     const Cube &cube() const { return literals; }
-    bool looks() const;  // whether it counts the variables of learned clauses
+    bool counts_variables() const;  // whether it counts the variables of learned clauses
     void count_conflict();
     void count_literal(int literal) { scores[size_t(std::abs(literal))] += bump; }
     bool is_idle() const { return idle == 1; }  // it has just refuted a cube, and gets another soon
     // call after a slice; gone: whether a variable (index: from 1) was eliminated
-    void look(const std::vector<unsigned char> &gone);
+    void end_slice(const std::vector<unsigned char> &gone);
     bool is_refuted() const;  // after status 20: only the cube, not the formula
     void tell_refuted();      // call once the refuting clause is given away
 
@@ -46,7 +46,7 @@ class Cubes {
     CaDiCaL::Solver &solver;
     EngineStatus &engine_status;
     const bool takes;
-    int idle;  // calls of `look` until the engine isn't idle any more
+    int idle;  // calls of `end_slice` until the engine isn't idle any more
     Cube literals;
     // the cube's number; a bit for each variable of cubes, set if it is frozen here
     uint64_t number = 0, kept = 0;
@@ -63,7 +63,7 @@ class Cubes {
 // The first process's part.
 class Dealer {
   public:
-    uint64_t dealt = 0, handed_on = 0;
+    uint64_t dealt = 0, reassigned = 0;
     uint64_t taken = 0, refuted = 0;  // of the user's cubes
     std::deque<size_t> queue;         // indices of the next cubes
     uint64_t elsewhere = 0;           // cubes that may still come from process 0
@@ -79,7 +79,7 @@ class Dealer {
     uint64_t counted[MOST_ENGINES] = {};  // by engine: the number of the last cube counted
 
     bool is_idle(const Shared &shared, int k);
-    bool hand_on(Shared &shared, int end, EngineStatus &idle);
+    bool reassign(Shared &shared, int end, EngineStatus &idle);
     void share_out(Shared &shared, int end, EngineStatus &idle, uint64_t usable);
     void halve(const Shared &shared, EngineStatus &oldest, EngineStatus &idle, uint64_t usable);
     void give(EngineStatus &engine_status, int of_file, const Cube &more);

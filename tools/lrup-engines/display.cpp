@@ -209,7 +209,7 @@ std::string Display::proofs_read() const {
 
 // At the end.
 
-void Display::details() const {
+void Display::tell_details() const {
     for (size_t k = 0; k < teams.size() && !inputs.options.check; k += teams.filters()) {
         const EngineStatus &engine_status = teams.engine_status(k);
         uint64_t lines = 0, citing = 0;
@@ -234,19 +234,19 @@ void Display::details() const {
         tell(format("cubes: %s dealt out, %s refuted, %s handed on from lost engines",
                     grouped(teams.dealer.dealt).c_str(),
                     grouped(teams.all(&EngineStatus::refuted_cubes)).c_str(),
-                    grouped(teams.dealer.handed_on).c_str()));
+                    grouped(teams.dealer.reassigned).c_str()));
     if (teams.answered > 0)
         tell(format("the verdict came %.2f s after an engine's answer", now() - teams.answered));
 }
 
 // With -v these lines were printed when the engines were lost.
-void Display::lost() const {
+void Display::tell_lost() const {
     for (size_t k = 0;
          k < teams.size() && !inputs.options.verbose && inputs.contradiction().empty(); k++)
         if (teams[k].told) tell(teams.why_lost(k));
 }
 
-void Display::hints() const {
+void Display::tell_other_hints() const {
     for (size_t k = 0; k < teams.size() && inputs.options.check; k += teams.filters()) {
         uint64_t count = 0;
         for (size_t n = k; n < k + teams.filters(); n++) count += teams.written_of(n).other_hints;
@@ -255,7 +255,7 @@ void Display::hints() const {
     }
 }
 
-void Display::causes(const std::string &cause) const {
+void Display::tell_causes(const std::string &cause) const {
     if (!checker.last_line().empty() && !inputs.options.verbose) tell(checker.last_line());
     const std::string &report = checker.report;
     size_t begin = 0;
@@ -265,14 +265,14 @@ void Display::causes(const std::string &cause) const {
     tell(cause);
 }
 
-void Display::record() const {
+void Display::tell_record() const {
     const char *folder = inputs.options.record;
     if (folder)
         tell(quoted(folder) + format(": %.1f MB kept, %s MB free", double(bytes_of_record()) / 1e6,
                                      grouped(free_bytes() / 1000000).c_str()));
 }
 
-void Display::summary() const {
+void Display::tell_summary() const {
     double engines = 0, filters = 0, lrupd = front.checking(), wall = now() - started;
     size_t left = 0;
     for (size_t k = 0; k < teams.size(); k++) {

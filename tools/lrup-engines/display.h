@@ -27,12 +27,12 @@ class Display {
     void show_lines();                              // lrupd's
     void tell(const std::string &line) const;       // a comment
     void tell_more(const std::string &line) const;  // with -v only
-    void details() const;
-    void lost() const;                            // why each lost engine was lost
-    void hints() const;                           // how many lines of each proof had wrong ones
-    void causes(const std::string &cause) const;  // why there is no answer
-    void record() const;                          // the record's size
-    void summary() const;
+    void tell_details() const;
+    void tell_lost() const;         // why each lost engine was lost
+    void tell_other_hints() const;  // how many lines of each proof had wrong ones
+    void tell_causes(const std::string &cause) const;  // why there is no answer
+    void tell_record() const;                          // the record's size
+    void tell_summary() const;
     void report_end(const std::string &answer);  // the last line of JSON
     void hide() const;                           // removes the progress line
 

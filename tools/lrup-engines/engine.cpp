@@ -77,9 +77,10 @@ class Worker : CaDiCaL::Learner, CaDiCaL::WitnessIterator {
     bool learning(int size) override {
         STORE(engine_status.conflicts, engine_status.conflicts + 1);
         learned = size;
-        if (cubes.looks()) cubes.count_conflict();
+        if (cubes.counts_variables()) cubes.count_conflict();
         return shares() && size >= 2 &&
-               (cubes.looks() || size <= engine.options->share_size + int(cubes.cube().size()));
+               (cubes.counts_variables() ||
+                size <= engine.options->share_size + int(cubes.cube().size()));
     }
 
     // The cube's literals don't count towards the length.
@@ -87,7 +88,7 @@ class Worker : CaDiCaL::Learner, CaDiCaL::WitnessIterator {
         const std::vector<int> &cube = cubes.cube();
         if (literal == 0 && learned <= engine.options->share_size && !LOAD(engine.shared->crowded))
             putc_unlocked('x', proof);
-        if (literal != 0 && cubes.looks()) cubes.count_literal(literal);
+        if (literal != 0 && cubes.counts_variables()) cubes.count_literal(literal);
         learned -= literal != 0 && std::find(cube.begin(), cube.end(), -literal) != cube.end();
     }
 
@@ -98,7 +99,7 @@ class Worker : CaDiCaL::Learner, CaDiCaL::WitnessIterator {
         return true;
     }
 
-    void look_for_witnesses() {
+    void update_gone() {
         if (solver.active() == active) return;
         active = solver.active();
         std::fill(gone.begin(), gone.end(), 0);
@@ -210,7 +211,7 @@ class Worker : CaDiCaL::Learner, CaDiCaL::WitnessIterator {
                 conflicts = within_limits(conflicts * std::min(2.0, std::max(0.5, factor)));
             STORE(engine_status.slices, engine_status.slices + 1);
             take_over();
-            cubes.look(gone);
+            cubes.end_slice(gone);
             if (fflush(proof) != 0) return 0;
         }
     }
@@ -274,7 +275,7 @@ class Worker : CaDiCaL::Learner, CaDiCaL::WitnessIterator {
     // it never takes the rest. Then the proof says that none of the clauses so far will be asked
     // for again.
     void take_over() {
-        look_for_witnesses();
+        update_gone();
         int left = MOST_TAKEN;
         for (int other = 0; other < engine.options->engines; other++) {
             uint64_t end = LOAD(engine.shared->engine_statuses[other].outbox_used),

@@ -286,7 +286,7 @@ static bool is_ending(void) {
                                        : LOAD(own->shared->ending_round) == round_number;
 }
 
-static bool ends(void) {
+static bool should_stop(void) {
     if (is_ending()) next_round();
     if (refuted_by_another) leave_to_others();
     return refuted || LOAD(own->shared->over);
@@ -341,7 +341,7 @@ static bool has_room_in_windows(uint64_t literals) {
 }
 
 // A lemma of windows is a unit clause.
-static void derives_in_windows(void) {
+static void before_line_in_windows(void) {
     uint64_t literals = filter.literals.length + IDENTITIES_OF_AN_ADDITION - 1;
     if (filter.additions < booked) return;  // before a lemma
     pass_windows();
@@ -354,9 +354,9 @@ static void derives_in_windows(void) {
     booked = filter.additions + 1;
 }
 
-static void derives(const Filter *one) {
+static void before_line(const Filter *one) {
     if (filter_has_windows(one))
-        derives_in_windows();
+        before_line_in_windows();
     else
         round_make_room(one, has_room, next_round_for);
 }
@@ -413,7 +413,7 @@ static bool is_wanted(void) {
 
 // Gives away all units, and what the engine marked. The line is still in the buffer; others see the
 // clause only after `out`.
-static void derived(const Filter *one) {
+static void after_line(const Filter *one) {
     size_t length = one->literals.length;
     count();
     if (own->shares && length > 0 && (length == 1 || one->marked))
@@ -421,7 +421,7 @@ static void derived(const Filter *one) {
     refuted |= is_wanted();
 }
 
-static void left(const Filter *one) {
+static void after_other_clause(const Filter *one) {
     (void)one;
     refuted_by_another |= is_wanted();
 }
@@ -434,18 +434,18 @@ static int engine_of(uint64_t number) {
     return (int)number - 1;
 }
 
-static uint64_t gift(uint64_t engine, uint64_t position) {
+static uint64_t identity_of_gift(uint64_t engine, uint64_t position) {
     uint32_t *outbox = own->outboxes[engine_of(engine)];
     uint64_t identity = gift_identity(outbox + position % own->shared->outbox_words);
     if (identity == 0) stop("lrupd hasn't saved a clause that was taken over");
     return identity;
 }
 
-static bool lacks(uint64_t clause, uint64_t length) {
+static bool solver_lacks(uint64_t clause, uint64_t length) {
     return !begins_with(&own->beginning, clause, length, own->engine);
 }
 
-static void passed(uint64_t engine, uint64_t position) {
+static void raise_floor(uint64_t engine, uint64_t position) {
     STORE(engine_status->floors[engine_of(engine)], position);
 }
 
@@ -492,13 +492,13 @@ static void end_proof(void) {
 // process. The stream deletes no clause before its round ends: at any time, others may cite what
 // was given away, and lrupd doesn't reuse the memory of deleted clauses.
 void filter_process(const Filtering *filtering, const void *formula) {
-    static const Hooks hooks = { .ends = ends,
-                                 .derives = derives,
-                                 .derived = derived,
-                                 .left = left,
-                                 .gift = gift,
-                                 .passed = passed,
-                                 .lacks = lacks };
+    static const Hooks hooks = { .should_stop = should_stop,
+                                 .before_line = before_line,
+                                 .after_line = after_line,
+                                 .after_other_clause = after_other_clause,
+                                 .identity_of_gift = identity_of_gift,
+                                 .raise_floor = raise_floor,
+                                 .solver_lacks = solver_lacks };
     own = filtering;
     errors_handle(end);
     engine_status = &own->shared->engine_statuses[own->engine - 1];

@@ -54,7 +54,7 @@ Inputs::Inputs(const Options &given) : options(given) {
 
 // A path from which the input can be read more than once. The front has copied an input that isn't
 // a file on disk, or is packed.
-static std::string again(const std::string &path, const std::string &fronts) {
+static std::string rereadable_path(const std::string &path, const std::string &fronts) {
     if (!is_read_again(path) || packer_of(path.c_str())) return fronts;
     return path[0] == '-' ? "./" + path : path;
 }
@@ -70,8 +70,8 @@ void Inputs::find() {
         find_again(inputs);
     else if (options.proofs)
         open_record(options.proofs, inputs, options.replace);
-    formula_path = again(inputs[0], front.formula);
-    if (options.assume) assume_path = again(inputs[1], front.assumptions);
+    formula_path = rereadable_path(inputs[0], front.formula);
+    if (options.assume) assume_path = rereadable_path(inputs[1], front.assumptions);
 }
 
 // Copies the front's copy of an input into the record.

@@ -64,11 +64,11 @@ void Loop::wait(EventCount &events, std::vector<pollfd> &files, double time,
                 const std::vector<Child *> &children) {
     files.push_back({ events.file, POLLIN, 0 });
     files.push_back({ signals, POLLIN, 0 });
-    bool waits = events_begin_wait(&events, seen) && !looks_again;
+    bool waits = events_begin_wait(&events, seen) && !polls_only;
     poll(files.data(), files.size(), waits ? milliseconds_to(time) : 0);
     events_end_wait(&events, files[files.size() - 2].revents != 0);
     seen = events_so_far(&events);
-    looks_again = false;
+    polls_only = false;
     if (files.back().revents != 0) take_signals(children);
 }
 

@@ -9,8 +9,8 @@
 
 class Loop {
   public:
-    int ended_by = 0;          // the signal that ends the run
-    bool looks_again = false;  // without waiting
+    int ended_by = 0;         // the signal that ends the run
+    bool polls_only = false;  // the next wait returns at once
 
     void begin();  // takes signals from now on
     // Waits for a signal, the end of a child, an event of engines and filters, or input from these

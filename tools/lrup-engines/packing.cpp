@@ -53,7 +53,7 @@ bool pack(const std::string &program, const std::string &name) {
 
 // In the packer's process. Streams are removed once the names of the packed ones are on disk.
 [[noreturn]] void pack_all(const std::string &program, const std::vector<std::string> &names) {
-    give_way();
+    raise_oom_score();
     for (const std::string &name : names)
         if (!pack(program, name)) _exit(1);
     int folder = openat(record_folder, ".", O_RDONLY | O_DIRECTORY | O_CLOEXEC);
@@ -64,15 +64,15 @@ bool pack(const std::string &program, const std::string &name) {
 
 }  // namespace
 
-std::string Packer::look(uint64_t round, const std::vector<std::string> &digests) {
+std::string Packer::pack_before(uint64_t round, const std::vector<std::string> &digests) {
     unsigned long long of_round = 0;
     if (!has_begun) program = on_the_path(PACKS);
     has_begun = true;
     if (program.empty() || child.running) return "";
     std::string why = failure(round);
     if (round <= next) return why;
-    for (; looked_at < digests.size(); looked_at++) {
-        const std::string name = digests[looked_at].substr(BEFORE_NAME);
+    for (; considered < digests.size(); considered++) {
+        const std::string name = digests[considered].substr(BEFORE_NAME);
         if (sscanf(name.c_str(), "round-%llu.", &of_round) != 1 || of_round >= round) break;
         bool is_stream = name.find(".stream-") != std::string::npos;
         if (is_stream && is_in_record(name, hooked(test_hooks.packed_from, LEAST)))
@@ -86,9 +86,9 @@ std::string Packer::look(uint64_t round, const std::vector<std::string> &digests
 std::string Packer::failure(uint64_t round) {
     bool has_failed = !names.empty() && !child.ended_with(0);
     end();
-    if (!has_failed) packed = looked_at;
+    if (!has_failed) packed = considered;
     if (!has_failed) return "";
-    looked_at = packed;
+    considered = packed;
     next = round;
     std::string why = has_told ? "" : "streams aren't packed yet: " + PACKS + " couldn't";
     has_told = true;

@@ -13,15 +13,15 @@ class Packer {
 
     // Goes on with the rounds before this one that have digests (each line: a digest, a name).
     // Returns why streams aren't packed, once, or "".
-    std::string look(uint64_t round, const std::vector<std::string> &digests);
+    std::string pack_before(uint64_t round, const std::vector<std::string> &digests);
     void end();  // once the process has ended: removes what is unfinished
 
   private:
     bool has_begun = false, has_told = false;
-    std::string program;               // empty: nothing is packed
-    std::vector<std::string> names;    // of the streams that the process packs
-    size_t packed = 0, looked_at = 0;  // how many of the digests, before and with these streams
-    uint64_t next = 0;                 // after a failure, the round before which it waits
+    std::string program;                // empty: nothing is packed
+    std::vector<std::string> names;     // of the streams that the process packs
+    size_t packed = 0, considered = 0;  // how many of the digests, before and with these streams
+    uint64_t next = 0;                  // after a failure, the round before which it waits
 
     std::string failure(uint64_t round);
     void start();

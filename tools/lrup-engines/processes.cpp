@@ -23,9 +23,9 @@
 namespace {
 
 std::vector<pid_t> alive;             // this process's children that haven't been waited for
-std::vector<pid_t> handing_on;        // those of them that forward signals
+std::vector<pid_t> forwarding;        // those of them that forward signals
 std::vector<int> opened;              // this process's files
-const unsigned LETTING_ANOTHER = 30;  // seconds
+const unsigned WAIT_FOR_REPORT = 30;  // seconds
 
 // Makes a new file: an old one of that name, or the target of a link, isn't written to.
 int new_file(const std::string &path) {
@@ -48,15 +48,15 @@ void close_all_but(const std::vector<int> &files) {
         if (std::find(files.begin(), files.end(), file) == files.end()) close(file);
 }
 
-bool another_refuses = false;
-void (*as_it_refuses)() = nullptr;
+bool is_reported_elsewhere = false;
+void (*on_refusal)() = nullptr;
 
 // In any process and thread of the program.
 void refuse(const std::string &cause) {
-    if (another_refuses) sleep(LETTING_ANOTHER);
+    if (is_reported_elsewhere) sleep(WAIT_FOR_REPORT);
     end_children();
-    if (!another_refuses) fprintf(stderr, "%s: %s\n", program_name, one_line(cause).c_str());
-    if (as_it_refuses) as_it_refuses();
+    if (!is_reported_elsewhere) fprintf(stderr, "%s: %s\n", program_name, one_line(cause).c_str());
+    if (on_refusal) on_refusal();
     _exit(1);
 }
 
@@ -209,14 +209,15 @@ std::string Child::end() const {
 
 // A child that forwards signals gets SIGTERM and SIGTSTP instead of SIGKILL and SIGSTOP, which
 // can't be caught. While it starts, SIGTSTP stops it, so SIGCONT follows SIGTERM.
-static void send(pid_t pid, int number, bool hands_on) {
-    if (hands_on) number = number == SIGKILL ? SIGTERM : number == SIGSTOP ? SIGTSTP : number;
+static void send(pid_t pid, int number, bool forwards_signals) {
+    if (forwards_signals)
+        number = number == SIGKILL ? SIGTERM : number == SIGSTOP ? SIGTSTP : number;
     kill(pid, number);
     if (number == SIGTERM) kill(pid, SIGCONT);
 }
 
 void Child::signal(int number) const {
-    if (running && pid != ELSEWHERE) send(pid, number, hands_on);
+    if (running && pid != ELSEWHERE) send(pid, number, forwards_signals);
 }
 
 // Returns in both processes: what follows `if (begin(..))` is in the child.
@@ -226,14 +227,14 @@ bool begin(Child &child, const std::string &name, const std::vector<int> &kept) 
     if (pid < 0) refuse("cannot start a process: " + error_text());
     if (pid > 0) {
         alive.push_back(pid);
-        if (child.hands_on) handing_on.push_back(pid);
+        if (child.forwards_signals) forwarding.push_back(pid);
         child.pid = pid;
         child.running = true;
         return false;
     }
-    as_it_refuses = nullptr;
+    on_refusal = nullptr;
     alive.clear();  // they are the parent's children: a refusal here mustn't end them
-    handing_on.clear();
+    forwarding.clear();
     prctl(PR_SET_PDEATHSIG, SIGKILL);
     prctl(PR_SET_NAME, name.c_str());
     if (getppid() != parent) _exit(1);
@@ -259,7 +260,7 @@ void become(const std::vector<std::string> &words, int file) {
 
 // In a child. A run can lose an engine, but not lrupd or the first process. A process may always
 // raise its own score; if that fails, the system chooses as usual.
-void give_way() {
+void raise_oom_score() {
     int file = open("/proc/self/oom_score_adj", O_WRONLY | O_CLOEXEC);
     if (file < 0) return;
     write_all(file, "1000", 4);
@@ -295,7 +296,7 @@ void wait_for(Child &child) {
 void end_children() {
     for (pid_t pid : alive)
         send(pid, SIGKILL,
-             std::find(handing_on.begin(), handing_on.end(), pid) != handing_on.end());
+             std::find(forwarding.begin(), forwarding.end(), pid) != forwarding.end());
     for (pid_t pid : alive)
         while (waitpid(pid, nullptr, 0) < 0 && errno == EINTR) {}
     alive.clear();

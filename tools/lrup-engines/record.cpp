@@ -742,7 +742,7 @@ void Saver::start() {
         claim(place_of(name));
     child = Child();
     if (begin(child, "saver", { now.file, record_folder })) {
-        give_way();
+        raise_oom_score();
         std::string lost = bring_streams_to_disk(), why = lost.empty() ? write() : lost;
         snprintf(cause, LONGEST_CAUSE, "%s", why.c_str());
         _exit(!lost.empty() ? LOST : !why.empty() ? UNSAVED : 0);
@@ -782,10 +782,10 @@ void Saver::end_next() {
 
 std::string Saver::end() {
     end_next();
-    return look();
+    return collect();
 }
 
-std::string Saver::look() {
+std::string Saver::collect() {
     if (now.round == 0 || child.running) return "";
     bool is_saved = child.ended_with(0), has_cause = child.ended_with(UNSAVED);
     is_lost = child.ended_with(LOST);

@@ -85,8 +85,8 @@ class Saver {
     // saved, this one comes next, unless a later one replaces it.
     void save(uint64_t round, const std::string &record, const std::string &checkpoint,
               const std::vector<std::string> &all);
-    std::string look();  // returns why a round couldn't be saved, or ""
-    std::string end();   // returns the same; nothing is saved after it
+    std::string collect();  // returns why a round couldn't be saved, or ""
+    std::string end();      // returns the same; nothing is saved after it
     bool is_busy() const { return child.running || next.round != 0; }
 
   private:

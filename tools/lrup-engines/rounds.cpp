@@ -68,7 +68,7 @@ void Rounds::begin(const std::string &program) {
     if (!size(clauses, literals)) refuse("the formula leaves no room" + in_a_row_of(rows.largest));
 }
 
-std::string Rounds::beginning() const {
+std::string Rounds::begin_message() const {
     const std::string folder = quoted(inputs.options.record);
     if (inputs.saved.count() == 0) return folder + ": no round was saved, so the run begins anew";
     return folder + ": round " + std::to_string(number) + " begins, with " +
@@ -275,7 +275,7 @@ std::string Rounds::end_record(const std::string &path) {
     }
     do {
         wait_for(saver.child);
-        std::string unsaved = saver.look();
+        std::string unsaved = saver.collect();
         if (!unsaved.empty()) display.tell(unsaved);
     } while (saver.is_busy());
     if (saver.saved == checked) return cause;
@@ -330,15 +330,16 @@ void Rounds::end_streams() {
 }
 
 // Goes from round to round. lrupd starts once the streams aren't short any more.
-std::string Rounds::look() {
+std::string Rounds::advance() {
     bool is_short_no_more =
         teams.all(&EngineStatus::bytes) >= (test_hooks.first_words ? 1 : SHORT_STREAMS);
-    teams.look_at_record();
+    teams.check_record();
     if (!teams.lost.empty() && !has_told_loss) display.tell("the record is lost: " + teams.lost);
     has_told_loss = !teams.lost.empty();
     if (!checker.child.pid && (is_short_no_more || inputs.saved.count() > 0))
         start_checker(rows.row);
-    for (const std::string &why : { saver.look(), packer.look(saver.saved, checker.digests) })
+    for (const std::string &why :
+         { saver.collect(), packer.pack_before(saver.saved, checker.digests) })
         if (!why.empty()) display.tell(why);
     for (size_t k = 0; k < teams.size() && state == OPEN; k++)
         if (LOAD(teams.engine_status(k).ended_round) == number) end_round(true);
@@ -389,7 +390,7 @@ void Rounds::keep_checkpoint() {
 }
 
 // Empty if nothing was saved.
-std::string Rounds::how_to_go_on() {
+std::string Rounds::resume_message() {
     std::string unsaved = saver.end();
     if (!unsaved.empty()) display.tell(unsaved);
     if (!inputs.options.may_be_resumed() || saver.saved == 0) return "";

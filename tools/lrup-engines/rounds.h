@@ -33,15 +33,15 @@ class Rounds {
            const Display &its_display)
         : inputs(its_inputs), teams(its_teams), checker(its_checker), display(its_display) {}
     void begin(const std::string &program);  // lrupd's path
-    std::string beginning() const;           // a message about a resumed run
-    std::string look();                      // returns why the run can't continue, or ""
+    std::string begin_message() const;       // a message about a resumed run
+    std::string advance();                   // returns why the run can't continue, or ""
     std::string feed(bool is_last);          // feeds lrupd; returns why it can't, or ""
     bool is_behind() const { return checked < number; }  // lrupd still checks earlier rounds
     void save_last();                                    // saves the last round, for a resumed run
     // lets one filter take the whole proof: at once or, if this round has ended, in the next one
     void leave_to_one(size_t k);
     bool is_saving() const;
-    std::string how_to_go_on();       // a message
+    std::string resume_message();     // a message
     double next_saving() const;       // when a round that has room ends; INFINITY: never
     std::vector<Child *> children();  // those that unpack or pack streams
     void end_streams();               // those of the last round, which are whole

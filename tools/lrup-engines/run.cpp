@@ -43,7 +43,7 @@ void Run::prepare() {
     for (size_t k = 0; k < inputs.cubes.size(); k++) teams.dealer.queue.push_back(k);
     if (others) others->begin();
     teams.start(!others);
-    if (inputs.options.resumed) display.tell(rounds.beginning());
+    if (inputs.options.resumed) display.tell(rounds.begin_message());
     for (size_t k = 0; k < teams.size(); k++)
         if (teams.is_solver(k) && k == teams.first_of(k))
             display.tell_more(teams.title(k) + ": " + teams[k].command);
@@ -54,7 +54,7 @@ void Run::await_formula(int file) {
     double limit = inputs.deadline();
     std::string why;
     for (bool is_read = false; !is_read && why.empty(); display.show_reading()) {
-        pollfd files[] = { front.says(), { file, POLLIN, 0 } };
+        pollfd files[] = { front.to_poll(), { file, POLLIN, 0 } };
         poll(files, 2, milliseconds_to(std::min(limit, display.next_reading())));
         is_read = files[1].revents != 0;
         if (files[0].revents != 0) front.read_on(nullptr);
@@ -70,7 +70,7 @@ void Run::await_formula(int file) {
 void Run::await_acceptance() {
     Child &probe = front.probe.child;
     front.await_refusal(inputs.deadline());
-    look_at_reading();
+    check_probe();
     if (!front.stopped.empty()) end_early(front.stopped);
     if (probe.running) end_early("time is up, but lrupd hasn't read the formula yet");
     if (!probe.ended_with(UNKNOWN_STATUS)) end_early("lrupd " + probe.end());
@@ -87,11 +87,10 @@ void Run::end_early(const std::string &why) {
 
 // Events.
 
-double Run::next_look() const {
-    if (phase == DONE) return inputs.deadline();
-    double time = std::min(
-        { display.next_show(), checker.next_look(), asked.empty() ? inputs.deadline() : saving });
-    if (others) time = std::min(time, others->next_look());
+double Run::next_timeout() const {
+    double time = std::min({ display.next_show(), checker.next_opening(),
+                             asked.empty() ? inputs.deadline() : saving });
+    if (others) time = std::min(time, others->next_step());
     if (phase == SOLVING && rounds.state == Rounds::OPEN)
         time = std::min({ time, teams.next_start(), rounds.next_saving() });
     if (phase == ENDING_STREAMS) time = std::min(time, ending);
@@ -108,26 +107,26 @@ std::vector<Child *> Run::children() {
 
 // Also wakes up if the front says something, or a full pipe has room.
 void Run::wait() {
-    std::vector<pollfd> files = { front.says() };
+    std::vector<pollfd> files = { front.to_poll() };
     for (const pollfd &file : checker.full_pipes()) files.push_back(file);
     for (const pollfd &file : others ? others->files() : std::vector<pollfd>())
         files.push_back(file);
-    loop.wait(teams.shared->events, files, next_look(), children());
+    loop.wait(teams.shared->events, files, next_timeout(), children());
     if (files[0].revents != 0) front.read_on(&checker);
-    if (phase != DONE) checker.look();
+    checker.open_pipes();
 }
 
-std::string Run::why_it_ends() {
-    std::string why = others ? others->look() : "";
+std::string Run::reason_to_end() {
+    std::string why = others ? others->step() : "";
     if (!why.empty()) return why;
     if (loop.ended_by) return std::string("ended by a signal: ") + strsignal(loop.ended_by);
     if (front.probe.child.ended() && WIFSIGNALED(front.probe.child.status))
         return "lrupd " + front.probe.child.end();
-    if (asked.empty()) asked = why_it_is_asked();
+    if (asked.empty()) asked = reason_to_stop();
     return asked.empty() || saves_first() ? "" : asked;
 }
 
-std::string Run::why_it_is_asked() const {
+std::string Run::reason_to_stop() const {
     if (!front.stopped.empty()) return front.stopped;
     return now() >= inputs.deadline() ? "time is up" : "";
 }
@@ -143,23 +142,23 @@ bool Run::saves_first() {
     return phase == SOLVING ? rounds.is_saving() : !rounds.is_behind();
 }
 
-void Run::look() {
+void Run::handle_events() {
     Phase phase_before = phase;
     Rounds::State state_before = rounds.state;
-    std::string why = why_it_ends();
+    std::string why = reason_to_end();
     if (!why.empty()) return finish(UNKNOWN_ANSWER, why);
-    look_at_reading();
-    if (phase == SOLVING) look_at_teams();
-    if (phase == SOLVING && rounds.state == Rounds::OPEN) look_at_solving();
-    if (phase == SOLVING) look_at_checker();
+    check_probe();
+    if (phase == SOLVING) check_teams();
+    if (phase == SOLVING && rounds.state == Rounds::OPEN) schedule_engines();
+    if (phase == SOLVING) check_lrupd();
     if (phase == ENDING_STREAMS) end_streams();
     if (phase != DONE) why = rounds.feed(phase == CHECKING);
     if (!why.empty()) finish(UNKNOWN_ANSWER, why);
     if (phase == CHECKING && checker.child.ended()) verdict();
-    loop.looks_again = phase != DONE && (phase != phase_before || rounds.state != state_before);
+    loop.polls_only = phase != DONE && (phase != phase_before || rounds.state != state_before);
 }
 
-void Run::look_at_reading() {
+void Run::check_probe() {
     if (!front.has_refused()) return;
     const Checker &probe = front.probe;
     bool is_of_assumptions =
@@ -171,17 +170,17 @@ void Run::look_at_reading() {
     inputs.refuse_formula(title(inputs.options.formula));
 }
 
-void Run::look_at_solving() {
+void Run::schedule_engines() {
     bool is_first = teams.dealer.dealt == 0;
-    teams.look();
+    teams.schedule();
     if (is_first && teams.dealer.dealt > 0) display.tell_more("engines take cubes");
 }
 
-void Run::look_at_teams() {
+void Run::check_teams() {
     bool any_left = false, any_has_begun = false;
     teams.keep_last();
     for (size_t k = 0; k < teams.size() && phase == SOLVING; k++) {
-        look_at_team(k);
+        check_team(k);
         any_left |= !teams.is_lost(k);
         any_has_begun |= !teams[teams.first_of(k)].idle;
     }
@@ -196,7 +195,7 @@ void Run::look_at_teams() {
 
 // The proof is complete once the filter has written its last line, whatever the engine says. If
 // filters share the proof, the one decides that stopped at its first step.
-void Run::look_at_team(size_t k) {
+void Run::check_team(size_t k) {
     Team &team = teams[k];
     if (LOAD(teams.engine_status(k).unwritten) && team.filter.ended())
         refuse("cannot write " + teams.stream_path(k, rounds.number) + ": " +
@@ -210,18 +209,18 @@ void Run::look_at_team(size_t k) {
             teams.has_windows() || (inputs.options.check && rounds.state == Rounds::OPEN);
         if (others_go_on && teams.is_any_at_work()) return;
         if (teams.answered == 0) teams.answered = now();
-        look_at_ends();
+        check_ends();
         ending = now() + ENDING;
         phase = ENDING_STREAMS;
         if (!inputs.options.check) display.tell_more(teams.title(k) + " has the proof");
         return;
     }
     int said = LOAD(teams.engine_status(k).answer);
-    if (said == SATISFIABLE && !team.wrong) look_at_model(k);
+    if (said == SATISFIABLE && !team.wrong) check_assignment(k);
     if (filter.ended()) STORE(facts.gone, 1);
     if (phase != SOLVING || team.told || said == SATISFIABLE) return;
     bool both_ended = team.engine.ended() && filter.ended_with(0);
-    if (leave_to_one(k) || look_at_copier(k) || look_at_end(k) || !filter.ended() ||
+    if (leave_to_one(k) || check_copier(k) || check_end(k) || !filter.ended() ||
         !(both_ended || !filter.ended_with(0)))
         return;
     if (facts.proof_ended && team.engine.running) return;  // the engine ends soon, too
@@ -251,7 +250,7 @@ bool Run::leave_to_one(size_t k) {
 }
 
 // Whether what copies a solver's proof has ended too early. The solver would wait for it.
-bool Run::look_at_copier(size_t k) {
+bool Run::check_copier(size_t k) {
     if (inputs.options.check || !teams.is_copied_no_more(k)) return false;
     tell_lost(k, "the process that copies its proof " + teams[k].copier.end());
     teams[k].engine.signal(SIGKILL);
@@ -262,7 +261,7 @@ bool Run::look_at_copier(size_t k) {
 // How an engine has ended, with the last line of a solver's standard error.
 std::string Run::end_of(size_t k) const {
     const Team &team = teams[k];
-    const char *words = teams.engine_status(k).last_words;
+    const char *words = teams.engine_status(k).stderr_end;
     if (!teams.is_solver(k)) return "the engine " + team.engine.end();
     if (!words[0] && team.engine.ended_with(127)) words = "command not found";
     return "the solver " + team.engine.end() + (words[0] ? ": " : "") + words;
@@ -280,23 +279,23 @@ std::string Run::end_before(size_t k) const {
 }
 
 // Whether an engine has ended without an answer, and not because of its filter.
-bool Run::look_at_end(size_t k) {
+bool Run::check_end(size_t k) {
     Team &team = teams[k];
     const EngineStatus &facts = teams.engine_status(k);
     const size_t decider = teams.decider(k);
     bool has_cause = teams.engine_status(decider).cause[0];
     bool has_ended =
         team.engine.ended() && (teams[decider].filter.ended_with(0) || !team.engine.ended_with(0));
-    bool is_unread = inputs.options.check && has_ended && facts.last_words[0],
+    bool is_unread = inputs.options.check && has_ended && facts.stderr_end[0],
          has_no_filter = inputs.options.check && team.engine.ended_with(0);
     if (LOAD(facts.answer) != 0 || (has_cause && !is_unread) || !has_ended || has_no_filter)
         return false;
-    bool unfounded = LOAD(facts.unfounded);
-    team.idle = !unfounded && LOAD(facts.lines) == 0 && !is_usual(team.engine);
+    bool lacks_assignment = LOAD(facts.lacks_assignment);
+    team.idle = !lacks_assignment && LOAD(facts.lines) == 0 && !is_usual(team.engine);
     static const char no_values[] = "it says 'satisfiable', but gives no assignment in lines v";
     std::string end = inputs.options.check ? "it can't be read" : end_of(k);
-    if (is_unread) end += std::string(": ") + facts.last_words;
-    tell_lost(k, unfounded ? no_values : end);
+    if (is_unread) end += std::string(": ") + facts.stderr_end;
+    tell_lost(k, lacks_assignment ? no_values : end);
     // The engine's process, which was killed, hasn't ended what the solver started.
     if (LOAD(facts.group)) kill(-LOAD(facts.group), SIGKILL);
     return true;
@@ -304,11 +303,11 @@ bool Run::look_at_end(size_t k) {
 
 // Looks at all engines once one has the answer, before they are killed. A filter that has the proof
 // ends before its engine.
-void Run::look_at_ends() {
+void Run::check_ends() {
     for (size_t k = 0; k < teams.size(); k++)
         if (k == teams.first_of(k) && !teams[k].told &&
             !LOAD(teams.engine_status(teams.decider(k)).refuted))
-            look_at_end(k);
+            check_end(k);
 }
 
 void Run::tell_lost(size_t k, const std::string &why) {
@@ -318,24 +317,24 @@ void Run::tell_lost(size_t k, const std::string &why) {
 }
 
 // The answer has to wait until lrupd has read the formula, which it may refuse.
-void Run::look_at_model(size_t k) {
+void Run::check_assignment(size_t k) {
     if (!front.probe.child.ended()) return;
     const signed char *values = teams[k].model;
     if (inputs.is_model(values)) {
         model.assign(values, values + inputs.formula.variables);
         display.tell_more(teams.title(k) + " has an assignment");
-        look_at_ends();
+        check_ends();
         return finish(SATISFIABLE, "");
     }
     teams[k].wrong = true;
     tell_lost(k, "its assignment doesn't satisfy the formula");
 }
 
-void Run::look_at_checker() {
+void Run::check_lrupd() {
     bool is_proved = checker.child.ended_with(0) || checker.child.ended_with(8);
     if (is_proved || (checker.child.ended() && rounds.state == Rounds::SAVING)) return verdict();
     if (checker.child.ended()) return finish(UNKNOWN_ANSWER, end_of_checker());
-    std::string why = rounds.look();
+    std::string why = rounds.advance();
     if (!why.empty()) finish(UNKNOWN_ANSWER, why);
 }
 
@@ -372,20 +371,36 @@ std::string Run::end_of_checker() const {
 
 void Run::finish(Answer found, const std::string &why) {
     if (phase == DONE) return;
+    if (saving == 0) saving = now() + SAVING;
     answer = found;
     cause = why;
     phase = DONE;
 }
 
+// Waits for the end of one of these, or for a signal. Nothing is fed any more.
+void Run::wait_at_end(const std::vector<Child *> &list, double time) {
+    std::vector<pollfd> files = { front.to_poll() };
+    loop.wait(teams.shared->events, files, time, list);
+    if (files[0].revents != 0) front.read_on(&checker);
+}
+
+// Ends what isn't needed any more. A round that is being saved may be saved, within a few seconds:
+// the last message says which rounds the record has. Another signal ends the wait.
+void Run::end_solving() {
+    const Child &probe = front.probe.child, &saver = rounds.saver.child;
+    for (Child *child : children())
+        if (child != &probe && child != &saver) child->signal(SIGKILL);
+    while (answer == UNKNOWN_ANSWER && saver.running && !loop.ended_by && now() < saving)
+        wait_at_end(children(), saving);
+}
+
 // If lrupd refuses the formula, the run says so, no matter how early solving ended. A signal or the
 // time limit ends the wait.
 void Run::await_reading() {
-    for (Child *child : children())
-        if (child != &front.probe.child) child->signal(SIGKILL);
     while (answer == UNKNOWN_ANSWER && front.probe.child.running && !is_ended() &&
            now() < inputs.deadline())
-        wait();
-    if (answer == UNKNOWN_ANSWER && !is_ended()) look_at_reading();
+        wait_at_end(children(), inputs.deadline());
+    if (answer == UNKNOWN_ANSWER && !is_ended()) check_probe();
 }
 
 // Waits for a tool that is called at the end. False if the run has to end first.
@@ -394,9 +409,7 @@ bool Run::await_end(Child &child) {
     bool goes_on = true;
     while (child.running) {
         front.say("busy");  // so the front waits some seconds more
-        std::vector<pollfd> files = { front.says() };
-        loop.wait(teams.shared->events, files, std::min(time, now() + 1), { &child });
-        if (files[0].revents != 0) front.read_on(&checker);
+        wait_at_end({ &child }, std::min(time, now() + 1));
         goes_on &= !is_ended() && now() < time;
         if (!goes_on) child.signal(SIGTERM);
     }
@@ -436,15 +449,15 @@ std::string Run::line_of_answer() const {
 // The front prints the answer itself, if this process doesn't refuse to give one.
 void Run::send_answer() {
     display.hide();
-    if (inputs.options.verbose) display.details();
-    if (inputs.options.verbose && others) others->details();
-    display.lost();
-    display.hints();
-    if (answer == UNKNOWN_ANSWER) display.causes(cause);
-    std::string next = rounds.how_to_go_on();
+    if (inputs.options.verbose) display.tell_details();
+    if (inputs.options.verbose && others) others->tell_details();
+    display.tell_lost();
+    display.tell_other_hints();
+    if (answer == UNKNOWN_ANSWER) display.tell_causes(cause);
+    std::string next = rounds.resume_message();
     if (answer == UNKNOWN_ANSWER && !next.empty()) display.tell(next);
-    display.record();
-    display.summary();
+    display.tell_record();
+    display.tell_summary();
     bool is_refused = answer == UNKNOWN_ANSWER && (!unkept.empty() || !unstarted.empty());
     if (!is_refused) display.report_end(line_of_answer());
     if (answer == SATISFIABLE) tell_model(model);
@@ -457,10 +470,11 @@ int Run::solve(const Elsewhere *elsewhere) {
     prepare();
     while (phase != DONE) {
         wait();
-        look();
+        handle_events();
         if (phase != DONE) display.show();
     }
     if (others) others->end(is_ended());
+    end_solving();
     await_reading();
     end_all();
     send_answer();

@@ -11,10 +11,10 @@
 // Engines on other hosts, and what this process does for them (mpi_leader.cpp).
 struct Elsewhere {
     std::function<void()> begin;        // before engines start here
-    std::function<std::string()> look;  // in each turn; returns why the run can't continue, or ""
-    std::function<double()> next_look;  // when `look` is due at the latest
+    std::function<std::string()> step;  // in each turn; returns why the run can't continue, or ""
+    std::function<double()> next_step;  // when `step` is due at the latest
     std::function<std::vector<pollfd>()> files;  // to wait for
-    std::function<void()> details;               // with -v
+    std::function<void()> tell_details;          // with -v
     std::function<void(bool at_once)> end;
     Child *carrier = nullptr;
 };
@@ -46,37 +46,39 @@ class Run {
     const Elsewhere *others = nullptr;
     double ending = 0;
     std::string asked;  // why the run has to end once its record is saved
-    double saving = 0;  // when it then ends at the latest
+    double saving = 0;  // when it then ends at the latest, and no save is waited for any more
 
     void prepare();
     void await_formula(int file);
     void await_acceptance();
     [[noreturn]] void end_early(const std::string &why);
     void wait();
-    double next_look() const;
+    double next_timeout() const;
     std::vector<Child *> children();
     bool is_ended() const { return loop.ended_by || !front.stopped.empty(); }
-    std::string why_it_ends();
-    std::string why_it_is_asked() const;
+    std::string reason_to_end();
+    std::string reason_to_stop() const;
     bool saves_first();
-    void look();
-    void look_at_reading();
-    void look_at_solving();
-    void look_at_teams();
-    void look_at_team(size_t k);
-    bool look_at_end(size_t k);
+    void handle_events();
+    void check_probe();
+    void schedule_engines();
+    void check_teams();
+    void check_team(size_t k);
+    bool check_end(size_t k);
     bool leave_to_one(size_t k);
-    bool look_at_copier(size_t k);
+    bool check_copier(size_t k);
     std::string end_of(size_t k) const;
     std::string end_before(size_t k) const;
-    void look_at_ends();
-    void look_at_model(size_t k);
+    void check_ends();
+    void check_assignment(size_t k);
     void tell_lost(size_t k, const std::string &why);
-    void look_at_checker();
+    void check_lrupd();
     std::string end_of_checker() const;
     void end_streams();
     void verdict();
     void finish(Answer found, const std::string &why);
+    void wait_at_end(const std::vector<Child *> &list, double time);
+    void end_solving();
     void await_reading();
     bool await_end(Child &child);
     void explain_proof(size_t k, const Keeping::Wait &wait_for_end);

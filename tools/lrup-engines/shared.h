@@ -41,15 +41,15 @@ typedef struct {
     // The engine writes:
     int answer;  // 10 or 20, once its proof and the model are written
     uint64_t conflicts, slices, taken, refused, satisfied;
-    int group;      // the process group of a user's solver, until that has ended
-    int unfounded;  // it says 10 without an assignment
+    int group;             // the process group of a user's solver, until that has ended
+    int lacks_assignment;  // it says 10 without an assignment
     // what copies a proof to its filters: bytes that it has copied; of a proof that comes only once,
     // bytes that it has kept so far, and whether it keeps no more
     uint64_t proof_read, proof_kept;
     int proof_unkept;
     // the end of a solver's standard error, or why a proof can't be read; read it once the engine
     // has ended
-    char last_words[LONGEST_CAUSE];
+    char stderr_end[LONGEST_CAUSE];
     int ready;              // it has frozen the variables of cubes
     uint64_t usable;        // bits: the variables of cubes that it froze, and that are open
     uint64_t refuted_cube;  // the number of the last cube that it refuted

@@ -51,11 +51,11 @@ std::string version();  // one line
 // processes.cpp: children, pipes and files.
 // ends all children, prints one line on standard error, exits with 1
 [[noreturn]] void refuse(const std::string &cause);
-extern void (*as_it_refuses)();    // refuse calls it, except in children
-extern bool another_refuses;       // another process reports the cause, and its end ends this one
-std::string error_text();          // of errno
-double now();                      // seconds
-int milliseconds_to(double time);  // for poll; -1 for INFINITY
+extern void (*on_refusal)();        // refuse calls it, except in children
+extern bool is_reported_elsewhere;  // another process reports the cause, and its end ends this one
+std::string error_text();           // of errno
+double now();                       // seconds
+int milliseconds_to(double time);   // for poll; -1 for INFINITY
 
 struct Pipe {
     int read = -1, write = -1;
@@ -94,9 +94,9 @@ const pid_t ELSEWHERE = INT_MAX;  // in place of the id of a process that isn't 
 struct Child {
     pid_t pid = 0;
     bool running = false;
-    int status = 0;         // as from wait
-    double seconds = 0;     // processor time
-    bool hands_on = false;  // forwards signals to a program of its own (solver.cpp)
+    int status = 0;                 // as from wait
+    double seconds = 0;             // processor time
+    bool forwards_signals = false;  // forwards signals to a program of its own (solver.cpp)
 
     bool ended() const { return pid != 0 && !running; }
     bool ended_with(int code) const;
@@ -110,7 +110,7 @@ bool begin(Child &child, const std::string &name, const std::vector<int> &kept);
 bool reap(const std::vector<Child *> &children);  // notes the end of one; false: none ended
 void wait_for(Child &child);
 void end_children();
-void give_way();  // makes the system kill this process first if memory is short
+void raise_oom_score();  // makes the system kill this process first if memory is short
 
 // folder.cpp: the run's temporary folder. It is removed however this process ends.
 namespace Folder {

@@ -149,7 +149,7 @@ int open_signals() {
 }
 
 // True if the solver has to be ended.
-bool hand_on(int signals, pid_t group) {
+bool forward(int signals, pid_t group) {
     signalfd_siginfo found;
     bool ends = false;
     while (read(signals, &found, sizeof found) == sizeof found) {
@@ -190,7 +190,7 @@ int wait_for_solver(pid_t group, int signals, int out, int error, Printed &print
     while (!is_told && !is_over) {
         pollfd list[] = { { signals, POLLIN, 0 }, { out, POLLIN, 0 }, { error, POLLIN, 0 } };
         poll(list, 3, -1);
-        is_told = hand_on(signals, group);
+        is_told = forward(signals, group);
         is_over = !is_told && has_ended(group);
         if (out >= 0) printed.read_from(out);
         last.read_from(error);
@@ -236,10 +236,10 @@ void solver_process(const Engine &engine, const std::string &command,
     close_file(error.write);
     int status = wait_for_solver(pid, signals, out.read, error.read, printed, last);
     STORE(engine.shared->engine_statuses[engine.number - 1].group, 0);
-    last.copy_to(engine.shared->engine_statuses[engine.number - 1].last_words);
+    last.copy_to(engine.shared->engine_statuses[engine.number - 1].stderr_end);
     int exited = WIFEXITED(status) ? WEXITSTATUS(status) : 0, answer = printed.answer(exited);
     if (printed.is_unfounded(exited))
-        STORE(engine.shared->engine_statuses[engine.number - 1].unfounded, 1);
+        STORE(engine.shared->engine_statuses[engine.number - 1].lacks_assignment, 1);
     if (answer != 0) STORE(engine.shared->engine_statuses[engine.number - 1].answer, answer);
     if (WIFEXITED(status)) _exit(WEXITSTATUS(status));
     signal(WTERMSIG(status), SIG_DFL);
@@ -258,7 +258,7 @@ static std::string proof_name;
 static void end_unread(const char *cause) {
     std::string text = cause, name = proof_name + ": ";
     if (text.compare(0, name.size(), name) == 0) text.erase(0, name.size());
-    text.copy(proof_status->last_words, LONGEST_CAUSE - 1);
+    text.copy(proof_status->stderr_end, LONGEST_CAUSE - 1);
     _exit(1);
 }
 

@@ -276,7 +276,7 @@ void Teams::start_filter(size_t k, uint64_t round) {
     int number = int(k) + 1;
     const std::vector<int> files = { team.proof.read, team.stream, team.spare, record_folder };
     if (!begin(team.filter, "filter " + std::to_string(number), files)) return;
-    give_way();
+    raise_oom_score();
     Filtering filtering = { shared,
                             outboxes.data(),
                             number,
@@ -321,7 +321,7 @@ static bool is_terminal(const char *path) {
 }
 
 // The proof is opened later, by its own process, which may have to wait for a pipe's writer.
-static struct stat look_at_proof(const char *path) {
+static struct stat check_proof(const char *path) {
     struct stat found;
     bool is_standard = strcmp(path, "-") == 0;
     if ((is_standard ? fstat(STDIN_FILENO, &found) : stat(path, &found)) != 0)
@@ -347,7 +347,7 @@ void Teams::check_solvers() const {
     bool any = options.engines > int(options.solvers.size()) * options.filters;
     for (const char *solver : options.solvers)
         if (options.check)
-            look_at_proof(solver), any = true;
+            check_proof(solver), any = true;
         else
             any = any || is_command(solver);
     if (!any) refuse("nothing could run: " + quoted(options.solvers[0]) + ": command not found");
@@ -386,7 +386,7 @@ void Teams::start_copier(size_t k) {
     std::vector<int> files = proof.pipes;
     files.insert(files.end(), { proof.file, proof.kept });
     if (!begin(list[k].copier, "copier", files)) return;
-    give_way();
+    raise_oom_score();
     Engine engine = {};
     engine.options = &inputs.options;
     engine.shared = shared;
@@ -410,15 +410,15 @@ void Teams::start_engine(size_t k) {
     if (is_proof) {
         files.insert(files.end(), { proof.file, proof.kept });
         const char *path = proof_of(k);
-        struct stat found = look_at_proof(path);
+        struct stat found = check_proof(path);
         if (S_ISREG(found.st_mode) && !packer_of(path)) team.proof_size = uint64_t(found.st_size);
         team.command = ::title(path);
     } else if (is_solver(k))
         team.command = solver_line(k, pipe, renamed);
     if (renamed >= 0) files.push_back(renamed);
-    team.engine.hands_on = is_solver(k) && !is_proof;
+    team.engine.forwards_signals = is_solver(k) && !is_proof;
     if (!begin(team.engine, "engine " + std::to_string(number), files)) return close_file(renamed);
-    give_way();
+    raise_oom_score();
     if (is_proof) proof_process(engine, proof);
     // drops the engine's messages
     if (!inputs.options.verbose) dup2(::open("/dev/null", O_WRONLY), STDERR_FILENO);
@@ -428,7 +428,7 @@ void Teams::start_engine(size_t k) {
 
 // Solving.
 
-void Teams::look() {
+void Teams::schedule() {
     if (now() >= next_start()) start_others();
     dealer.deal(*shared, inputs.options);
     pause_others();
@@ -620,7 +620,7 @@ void Teams::start_alone(size_t k, uint64_t round) {
     facts.cause[0] = 0;
     facts.proof_ended = facts.has_steps = facts.needs_one = facts.refuted = 0;
     facts.stopped_at = NO_STOP;
-    if (inputs.options.check) facts.last_words[0] = 0, STORE(facts.answer, 0);
+    if (inputs.options.check) facts.stderr_end[0] = 0, STORE(facts.answer, 0);
     start_team(k, round);
 }
 
@@ -669,7 +669,7 @@ void Teams::number_streams() {
 }
 
 void Teams::open_streams(uint64_t round) {
-    look_at_record();
+    check_record();
     for (size_t k = 0; k < list.size(); k++) {
         STORE(engine_status(k).fed, 0);
         STORE(engine_status(k).released, 0);
@@ -696,7 +696,7 @@ void Teams::open_in_memory(uint64_t round) {
     }
 }
 
-void Teams::look_at_record() {
+void Teams::check_record() {
     for (size_t k = 0; k < list.size() && lost.empty(); k++)
         if (LOAD(engine_status(k).spilled))
             lost = "cannot write " + stream_path(k, LOAD(shared->round)) + ": " +
@@ -722,7 +722,7 @@ bool Teams::spill(size_t k) {
 
 // A filter that died may have left lines in the record that lrupd didn't get, and part of a line.
 void Teams::cut_streams() {
-    look_at_record();
+    check_record();
     for (size_t k = 0; k < list.size() && inputs.options.proofs && lost.empty(); k++)
         cut_stream(k, list[k].silent ? 0 : written_of(k).bytes);
 }

@@ -86,7 +86,7 @@ class Teams {
     void start(bool is_first_alone);      // if so, the others start a moment later
     void start_others();
     double next_start() const;       // when the others start; INFINITY: never
-    void look();                     // to be called often while they solve
+    void schedule();                 // to be called often while they solve
     void go_on();                    // resumes paused engines and filters
     bool end_streams(bool is_late);  // after a whole line; true once all filters have ended
     // chooses an engine that ends with the next round; returns why
@@ -117,7 +117,7 @@ class Teams {
     uint64_t clauses = 0;                             // of the round's formula
 
     std::string lost;                     // why the record is incomplete; empty: it isn't
-    void look_at_record();                // sets `lost`
+    void check_record();                  // sets `lost`
     uint64_t bytes_kept(size_t k) const;  // of the stream; the rest is in the other file
     int file_to_write(size_t k) const;    // for a stream from another host
     bool spill(size_t k);                 // false if there is no other file

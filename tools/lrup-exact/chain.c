@@ -178,18 +178,20 @@ static void next_round(uint64_t wanted) {
 
 static bool has_room(uint64_t literals) { return row_holds(rows.row, used, literals); }
 
-static void derives(const Filter *one) { round_make_room(one, has_room, next_round); }
+static void before_line(const Filter *one) { round_make_room(one, has_room, next_round); }
 
-static void derived(const Filter *one) {
+static void after_line(const Filter *one) {
     used.lines++;
     used.room += one->literals.length;
 }
 
-static bool never_ends(void) { return false; }
+static bool never_stops(void) { return false; }
 
 // Call after the formula has been read. Prints the path of the first stream once lrupd may start.
 void chain_begin(Filter *one, uint64_t memory) {
-    static const Hooks hooks = { .ends = never_ends, .derives = derives, .derived = derived };
+    static const Hooks hooks = { .should_stop = never_stops,
+                                 .before_line = before_line,
+                                 .after_line = after_line };
     filter = one;
     filter->hooks = &hooks;
     filter->keeps_clauses = true;

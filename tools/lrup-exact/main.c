@@ -57,7 +57,7 @@ static Form form_named(const char *word) {
 }
 
 // What follows the number, which has at most nine digits; NULL if there is no number.
-static const char *behind_number(const char *word, uint64_t *number) {
+static const char *after_number(const char *word, uint64_t *number) {
     const char *at = word;
     *number = 0;
     while (*at >= '0' && *at <= '9' && at - word < 9)
@@ -67,14 +67,14 @@ static const char *behind_number(const char *word, uint64_t *number) {
 
 static uint64_t number_of(const char *word) {
     uint64_t number = 1;
-    const char *rest = word ? behind_number(word, &number) : "";
+    const char *rest = word ? after_number(word, &number) : "";
     if (!rest || *rest != 0) refuse("not a stream's number:", word);
     return number;
 }
 
 // Reads T=STREAM, the number and the path of another stream.
 static const char *path_of(const char *word, uint64_t *number) {
-    const char *rest = behind_number(word, number);
+    const char *rest = after_number(word, number);
     if (!rest || rest[0] != '=' || rest[1] == 0) refuse("not T=STREAM:", word);
     return rest + 1;
 }

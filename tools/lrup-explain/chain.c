@@ -12,7 +12,7 @@ typedef struct {
     Clauses clauses;
     ClauseRefs hints, chain;  // in the line's order; the chain so far
     signed char *values;      // by literal, under the chain so far
-    unsigned char *needed;    // by variable; all 0 except during `bring`
+    unsigned char *needed;    // by variable; all 0 except during `add_reasons`
     bool is_found;
 } Search;
 
@@ -78,7 +78,7 @@ static unsigned open_literals(const Search *search, ClauseRef ref, Literal *open
 }
 
 // Adds the clause to the chain if it is unit, or the conflict, which ends the chain.
-static void put(Search *search, ClauseRef ref) {
+static void append_if_unit(Search *search, ClauseRef ref) {
     Literal open = 0;
     unsigned count = open_literals(search, ref, &open);
     if (search->is_found || count > 1 || (count == 1 && search->values[open] > 0)) return;
@@ -98,28 +98,28 @@ static size_t position_of(const Search *search, Literal literal) {
     return search->propagation.positions[variable_of(literal)];
 }
 
-static void want(Search *search, ClauseRef ref, Literal left, size_t *behind) {
+static void mark_needed(Search *search, ClauseRef ref, Literal left, size_t *end) {
     const Clause *clause = clause_at(&search->clauses, ref);
     for (unsigned k = 0; k < clause->length; k++) {
         if (!is_wanted(search, clause->literals[k]) || clause->literals[k] == left) continue;
         search->needed[variable_of(clause->literals[k])] = 1;
-        if (position_of(search, clause->literals[k]) >= *behind)
-            *behind = position_of(search, clause->literals[k]) + 1;
+        if (position_of(search, clause->literals[k]) >= *end)
+            *end = position_of(search, clause->literals[k]) + 1;
     }
 }
 
 // For each literal of the clause except `left`, adds the clauses by which propagation made it
 // false, in the order of propagation.
-static void bring(Search *search, ClauseRef ref, Literal left) {
+static void add_reasons(Search *search, ClauseRef ref, Literal left) {
     const Propagation *propagation = &search->propagation;
-    size_t behind = 0;  // after the last position needed
-    want(search, ref, left, &behind);
-    for (size_t position = behind; position-- > 0;)
+    size_t end = 0;  // after the last position needed
+    mark_needed(search, ref, left, &end);
+    for (size_t position = end; position-- > 0;)
         if (search->needed[variable_of(propagation->trail.items[position])])
-            want(search, reason_at(propagation, position), CONFLICT, &behind);
-    for (size_t position = 0; position < behind; position++) {
+            mark_needed(search, reason_at(propagation, position), CONFLICT, &end);
+    for (size_t position = 0; position < end; position++) {
         int variable = variable_of(propagation->trail.items[position]);
-        if (search->needed[variable]) put(search, propagation->reasons[variable]);
+        if (search->needed[variable]) append_if_unit(search, propagation->reasons[variable]);
         search->needed[variable] = 0;
     }
 }
@@ -195,13 +195,13 @@ Chain chain_find(const Replay *replay, const Stream *stream, uint64_t also) {
         ClauseRef hint = search.hints.items[k];
         Literal left = left_by(&search, hint);
         if (left == NEITHER) continue;
-        bring(&search, hint, left);
-        put(&search, hint);
+        add_reasons(&search, hint, left);
+        append_if_unit(&search, hint);
     }
     ClauseRef conflict = search.propagation.conflict;
     if (conflict && !search.is_found) {
-        bring(&search, conflict, CONFLICT);
-        put(&search, conflict);
+        add_reasons(&search, conflict, CONFLICT);
+        append_if_unit(&search, conflict);
     }
     Chain chain = { .is_found = search.is_found,
                     .true_literals = search.propagation.trail.length,

@@ -110,12 +110,14 @@ uint64_t next_identity(const Replay *replay, const Stream *stream);
 enum { CONFLICT = -1, NEITHER = -2 };
 Literal unit_of(const Replay *replay, ClauseRef ref);              // or CONFLICT or NEITHER
 Fault judge(Replay *replay, Stream *stream, const Reading *line);  // call forget_values after it
+// whether the hints of the bad addition are exact in the reverse order
+bool is_right_reversed(const Replay *replay, const Stream *stream);
 void forget_values(Replay *replay);
 
 // replay.c
 void replay_all(Replay *replay, const char *formula, const char *folder, const char *const *paths,
                 uint32_t count);
-Line line_at_hand(const Stream *stream, bool *is_whole);
+Line current_line(const Stream *stream, bool *is_whole);
 // the number of the line that derives the clause, if it is the current line or a later one; or 0
 uint64_t line_deriving(const Stream *stream, uint64_t identity);
 // the number of the first line, up to the current one, that deletes the clause; or 0

@@ -136,7 +136,7 @@ static FormFault first_fault(Line line, bool is_whole) {
 
 // If the copied line has no fault any more, another process has written to it.
 FormFault form_fault(const Stream *stream, Line *line, bool *is_whole) {
-    *line = line_copy(line_at_hand(stream, is_whole));
+    *line = line_copy(current_line(stream, is_whole));
     FormFault found = first_fault(*line, *is_whole);
     unsigned long long number = stream->lines + 1;
     if (found.kind == NO_FAULT)

@@ -67,16 +67,20 @@ void forget_values(Replay *replay) {
     replay->trail.length = 0;
 }
 
-Literal unit_of(const Replay *replay, ClauseRef ref) {
+static Literal unit_with(const Replay *replay, const signed char *values, ClauseRef ref) {
     const Clause *clause = clause_at(&replay->store, ref);
     Literal unit = CONFLICT;
     for (unsigned k = 0; k < clause->length; k++) {
         Literal literal = clause->literals[k];
-        if (replay->values[literal] < 0) continue;
-        if (replay->values[literal] > 0 || unit != CONFLICT) return NEITHER;
+        if (values[literal] < 0) continue;
+        if (values[literal] > 0 || unit != CONFLICT) return NEITHER;
         unit = literal;
     }
     return unit;
+}
+
+Literal unit_of(const Replay *replay, ClauseRef ref) {
+    return unit_with(replay, replay->values, ref);
 }
 
 // Lines.
@@ -130,6 +134,26 @@ static Fault take_hint(Replay *replay, const Stream *stream, const Reading *line
     *is_conflict = unit == CONFLICT;
     if (unit != CONFLICT) make_true(replay, unit, (uint32_t)place + 1);
     return no_fault;
+}
+
+bool is_right_reversed(const Replay *replay, const Stream *stream) {
+    const Reading *line = &replay->line;
+    signed char *values = zeroed(2 * (size_t)replay->variables, sizeof *values);
+    Literal unit = NEITHER;
+    for (size_t k = 0; k < line->length; k++) {
+        values[literal_of(line->literals[k])] = -1;
+        values[complement_of(literal_of(line->literals[k]))] = 1;
+    }
+    size_t left = line->count;
+    while (left > 0 && unit != CONFLICT) {
+        uint64_t hint = (uint64_t)line->cited[--left];
+        bool is_known = hint <= replay->last && is_usable(replay, stream, hint);
+        unit = is_known ? unit_with(replay, values, clause_of(replay, hint)) : NEITHER;
+        if (unit == NEITHER) break;
+        if (unit != CONFLICT) values[unit] = 1, values[complement_of(unit)] = -1;
+    }
+    grow(values, 0);
+    return unit == CONFLICT && left == 0;
 }
 
 static Fault judge_addition(Replay *replay, const Stream *stream, const Reading *line) {

@@ -51,7 +51,10 @@ int main(int count, char **words) {
     number(given.tries, 0, MOST_TRIES);
     const char *folder = folder_of(files);
     replay_all(&replay, files->items[0], folder, files->items + 1, (uint32_t)files->length - 1);
-    if (!replay.faulty) printf("no line is bad\n");
+    if (!replay.faulty)
+        printf("no line is bad\n"
+               "  if lrupd found one: missing and retired may depend on time%s\n",
+               folder ? "" : "; were --lines and --room the same?");
     if (fflush(stdout) != 0) stop("cannot write to standard output");
     return replay.faulty ? BAD : 0;
 }

@@ -10,7 +10,7 @@
 
 // Streams.
 
-Line line_at_hand(const Stream *stream, bool *is_whole) {
+Line current_line(const Stream *stream, bool *is_whole) {
     unsigned char *end = memchr(stream->at, '\n', (size_t)(stream->end - stream->at));
     *is_whole = end != NULL;
     return (Line){ stream->at, end ? end : stream->end, true };
@@ -27,7 +27,7 @@ static void keep_line(Replay *replay, Reading line) {
     replay->line = line;
 }
 
-static void end_with(Replay *replay, Stream *stream, const Reading *line, Fault found) {
+static void end_at_fault(Replay *replay, Stream *stream, const Reading *line, Fault found) {
     bool is_first = !replay->faulty;
     stream->has_ended = replay->faulty = true;
     stream->fault = found;
@@ -39,20 +39,20 @@ static void end_with(Replay *replay, Stream *stream, const Reading *line, Fault 
 // Whether the stream moved on or ended, instead of waiting.
 static bool take_line(Replay *replay, Stream *stream) {
     bool is_whole;
-    Line line = line_at_hand(stream, &is_whole);
+    Line line = current_line(stream, &is_whole);
     Reading reading;
     const char *misspelled = is_whole ? line_read(line, &reading) : "";
     if (misspelled) {
         Line copy;
         Fault found = { .kind = form_fault(stream, &copy, &is_whole).kind };
-        end_with(replay, stream, NULL, found);
+        end_at_fault(replay, stream, NULL, found);
         return true;
     }
     Fault found = judge(replay, stream, &reading);
     if (found.kind == FAULT_WAITING)
         stream->awaited = found.object;
     else if (found.kind != NO_FAULT)
-        end_with(replay, stream, &reading, found);
+        end_at_fault(replay, stream, &reading, found);
     else {
         stream->at = line.end + 1;
         stream->lines++;
@@ -70,7 +70,7 @@ static bool take_turn(Replay *replay, Stream *stream) {
 }
 
 // Call if all unfinished streams wait for each other. Returns the first stream of the cycle.
-static Stream *in_circle(const Replay *replay) {
+static Stream *first_in_cycle(const Replay *replay) {
     Stream *stream = replay->streams;
     while (stream->has_ended) stream++;
     for (uint32_t k = 0; k < replay->count; k++) stream = owner_of(replay, stream->awaited);
@@ -91,7 +91,7 @@ static void replay_round(Replay *replay) {
     }
     for (uint32_t k = 0; k < replay->count; k++) ended += replay->streams[k].has_ended;
     if (ended < replay->count) {
-        Stream *first = in_circle(replay);
+        Stream *first = first_in_cycle(replay);
         replay->is_stuck = true;
         take_line(replay, first);
         for (uint32_t k = 0; k < replay->count; k++)

@@ -8,7 +8,7 @@
 #include "line_limits.h"
 #include "explain.h"
 
-enum { MOST_LITERALS = 5, BYTES_BEFORE = 48, BYTES_BEHIND = 16 };
+enum { MOST_LITERALS = 5, BYTES_BEFORE = 48, BYTES_AFTER = 16 };
 
 typedef unsigned long long Printed;
 
@@ -26,13 +26,13 @@ static int tell_byte(unsigned char byte) {
 static void tell_bytes(Line line, bool is_whole, size_t place) {
     size_t length = (size_t)(line.end - line.start),
            first = place > BYTES_BEFORE ? place - BYTES_BEFORE : 0;
-    size_t behind = place + BYTES_BEHIND < length ? place + BYTES_BEHIND : length;
+    size_t end = place + BYTES_AFTER < length ? place + BYTES_AFTER : length;
     int width = printf("      %s", first > 0 ? ".." : "") - 6;
-    for (size_t k = first; k < behind; k++) {
+    for (size_t k = first; k < end; k++) {
         int shown = tell_byte(line.start[k]);
         if (k < place) width += shown;
     }
-    if (behind < length)
+    if (end < length)
         printf("..");
     else if (is_whole && place == length)
         printf("\\n");
@@ -121,13 +121,16 @@ static bool next_addition(const Stream *stream, unsigned char **at, Reading *rea
 }
 
 // The greatest common divisor of the differences between the stream's identities; 0 if there are
-// fewer than three identities, since the difference between two may be chance.
-static uint64_t step_of(const Stream *stream) {
+// fewer than three identities, since the difference between two may be chance. Also whether all
+// differences are the same.
+static uint64_t step_of(const Stream *stream, bool *is_even) {
     uint64_t step = 0, last = 0, count = 0;
     Reading reading;
+    *is_even = true;
     for (unsigned char *at = stream->start; next_addition(stream, &at, &reading);
          last = reading.identity, count++) {
         uint64_t rest = reading.identity > last ? reading.identity - last : last - reading.identity;
+        if (count > 1 && rest != step) *is_even = false;
         while (last != 0 && rest != 0) {
             uint64_t next = step % rest;
             step = rest;
@@ -137,31 +140,75 @@ static uint64_t step_of(const Stream *stream) {
     return count < 3 ? 0 : step;
 }
 
-// The step between a stream's identities shows for how many streams they were numbered.
-static bool tell_left_out(const Replay *replay, const Stream *stream) {
-    uint64_t step = step_of(stream);
-    if (step <= replay->count || step > STREAMS) return false;
-    printf("       the identities of stream %u go up by %llu, as with %llu streams, but "
-           "%u %s given: was one left out?\n",
-           stream->number, (Printed)step, (Printed)step, replay->count,
-           replay->count == 1 ? "is" : "are");
+// Prints a line if the step between the stream's identities shows that they were numbered for
+// another number of streams; then whose the cited identity, if any, would be. If identities are
+// left out, the step is a multiple, so a smaller step shows it only if none is.
+static bool tell_count(const Replay *replay, const Stream *stream, uint64_t cited) {
+    bool is_even, is_cited = cited > replay->clauses;
+    uint64_t step = step_of(stream, &is_even), owner = 0;
+    if (step == 0 || step > STREAMS || step == replay->count) return false;
+    if (step < replay->count && !is_even) return false;
+    if (is_cited) owner = (cited - replay->clauses - 1) % step + 1;
+    printf("       the identities of stream %u go up by %llu, as with %llu stream%s, but "
+           "%u %s given: %s",
+           stream->number, (Printed)step, (Printed)step, step == 1 ? "" : "s", replay->count,
+           replay->count == 1 ? "is" : "are",
+           step > replay->count ? "was one left out?" : "does its solver know of all?");
+    if (owner > replay->count)
+        printf(" %llu would be stream %llu's", (Printed)cited, (Printed)owner);
+    printf("\n");
     return true;
 }
 
-// Prints a line if the stream has two or more identities that all belong to one other stream.
-static void tell_order(const Replay *replay, const Stream *stream) {
+// The stream to which all identities of this stream's additions belong; 0 if there is none, or if
+// it has fewer additions than `least`.
+static uint32_t owner_of_all(const Replay *replay, const Stream *stream, uint64_t least) {
     uint64_t count = 0;
     uint32_t owner = 0;
     Reading reading;
     for (unsigned char *at = stream->start; next_addition(stream, &at, &reading); count++) {
-        if (reading.identity <= replay->clauses) return;
+        if (reading.identity <= replay->clauses) return 0;
         if (count == 0) owner = number_of_owner(replay, reading.identity);
-        if (number_of_owner(replay, reading.identity) != owner) return;
+        if (number_of_owner(replay, reading.identity) != owner) return 0;
     }
-    if (count > 1 && owner != stream->number)
+    return count < least ? 0 : owner;
+}
+
+// Whether the stream's identities, from the first possible one on, would be right if the formula
+// had this many clauses.
+static bool are_right_with(const Replay *replay, const Stream *stream, uint64_t clauses) {
+    uint64_t next = clauses + stream->number, count = 0;
+    Reading reading;
+    for (unsigned char *at = stream->start; next_addition(stream, &at, &reading); count++) {
+        uint64_t gap = reading.identity - next;
+        if (reading.identity < next || gap % replay->count != 0 || (count == 0 && gap > 0))
+            return false;
+        next = reading.identity + replay->count;
+    }
+    return count > 0;
+}
+
+// Prints a line if the stream has two or more identities that all belong to one other stream.
+static void tell_order(const Replay *replay, const Stream *stream) {
+    uint32_t owner = owner_of_all(replay, stream, 2);
+    if (owner != 0 && owner != stream->number)
         printf("       all its identities belong to stream %u: are the streams in the solvers' "
                "order?\n",
                owner);
+}
+
+// Prints a line if the solver seems to have counted one clause more or less. Of two streams each of
+// which has the other's identities, no solver has miscounted: they were swapped.
+static void tell_miscounted(const Replay *replay, const Stream *stream) {
+    uint32_t owner = owner_of_all(replay, stream, 1);
+    if (owner != 0 && owner_of_all(replay, &replay->streams[owner - 1], 1) == stream->number)
+        return;
+    for (uint64_t clauses = replay->clauses - (replay->clauses > 0); clauses <= replay->clauses + 1;
+         clauses++)
+        if (are_right_with(replay, stream, clauses))
+            printf("       all its identities would be right if the formula had %llu clause%s; it "
+                   "has %llu\n",
+                   (Printed)clauses, clauses == 1 ? "" : "s", (Printed)replay->clauses);
 }
 
 static void tell_right_identity(const Replay *replay, const Stream *stream) {
@@ -200,17 +247,24 @@ static void why_identity(const Replay *replay, const Stream *stream) {
             printf("  why: %llu is this stream's own: an import names a clause of another "
                    "stream, or of the formula\n",
                    (Printed)identity);
-        if (identity > replay->last) tell_lines_for(replay, identity);
+        if (identity > replay->last)
+            tell_lines_for(replay, identity);
+        else
+            tell_count(replay, stream, identity);
         return;
     }
     if (identity <= replay->clauses) {
         printf("  why: %llu belongs to the formula, whose clauses are 1 to %llu\n",
                (Printed)identity, (Printed)replay->clauses);
+        tell_miscounted(replay, stream);
     } else if (number_of_owner(replay, identity) != stream->number) {
         printf("  why: %llu belongs to stream %u: %u streams take turns above %llu\n",
                (Printed)identity, number_of_owner(replay, identity), replay->count,
                (Printed)replay->clauses);
-        if (!tell_left_out(replay, stream)) tell_order(replay, stream);
+        if (!tell_count(replay, stream, 0)) {
+            tell_order(replay, stream);
+            tell_miscounted(replay, stream);
+        }
     } else if (identity > replay->last) {
         printf("  why: %llu is above %llu, the last identity with --lines %llu\n",
                (Printed)identity, (Printed)replay->last, (Printed)replay->row.lines);
@@ -311,8 +365,8 @@ static void why_missing(const Replay *replay, const Stream *stream, uint64_t hin
     if (later || is_cut_off(owner, hint)) return;
     if (owner->start == owner->end)
         printf("       stream %u has no lines: was it left out?\n", owner->number);
-    else
-        tell_left_out(replay, owner);
+    else if (!tell_count(replay, owner, hint) && owner != stream)
+        tell_count(replay, stream, hint);
 }
 
 static void why_deleted(const Replay *replay, const Stream *stream, uint64_t hint) {
@@ -413,6 +467,11 @@ static void why_no_conflict(const Replay *replay, const Stream *stream) {
     printf("       all literals are false in ");
     tell_clause_and_place(replay, conflict);
     printf(", which isn't a hint of the line\n");
+}
+
+static void tell_reversed(const Replay *replay, const Stream *stream) {
+    if (is_right_reversed(replay, stream))
+        printf("       these hints are right in the reverse order\n");
 }
 
 static void tell_chain(const Replay *replay, const Stream *stream) {
@@ -519,5 +578,7 @@ void tell_why(const Replay *replay, const Stream *stream) {
     case NO_FAULT:
     case FAULT_WAITING: break;
     }
-    if (replay->line.kind == 'a' && kind >= FAULT_EXCESS) tell_chain(replay, stream);
+    if (replay->line.kind != 'a' || kind < FAULT_EXCESS) return;
+    tell_reversed(replay, stream);
+    tell_chain(replay, stream);
 }

@@ -24,16 +24,16 @@ class Follower {
     Follower(const Options &options, Link &connected)
         : inputs(options), teams(inputs), peer(inputs.options, teams, connected), link(connected) {
         inputs.options.proofs = inputs.options.assume = nullptr;
-        peer.told = [this](Message &message) { look_at(message); };
+        peer.told = [this](Message &message) { take_message(message); };
     }
 
     int solve() {
         prepare();
         while (!ended) {
             std::vector<pollfd> files = link.files();
-            loop.wait(teams.shared->events, files, next_look(), children());
-            peer.look();
-            look_here();
+            loop.wait(teams.shared->events, files, next_timeout(), children());
+            peer.step();
+            step_here();
             for (size_t k = 0; k < teams.size(); k++)
                 if (teams.is_here(k)) say(k);
             if (now() - traffic_at >= PULSE ||
@@ -78,8 +78,8 @@ class Follower {
         return list;
     }
 
-    double next_look() const {
-        double time = std::min({ traffic_at + PULSE, ending, peer.next_look() });
+    double next_timeout() const {
+        double time = std::min({ traffic_at + PULSE, ending, peer.next_step() });
         if (state == SOLVING) time = std::min(time, teams.next_start());
         for (size_t k = 0; k < teams.size(); k++)
             if (teams.is_here(k)) time = std::min(time, told[k].at + PULSE);
@@ -98,7 +98,7 @@ class Follower {
         Message message;
         while (LOAD(teams.shared->most_lines) == 0)
             if (link.wait(message, STARTING))
-                look_at(message);
+                take_message(message);
             else
                 refuse("no message from process 0");
         teams.start(false);
@@ -218,7 +218,7 @@ class Follower {
         STORE(teams.shared->round, number);
     }
 
-    void look_at(Message &message) {
+    void take_message(Message &message) {
         Control control;
         if (message.head.word == CONTROL && message.take(control)) take_control(control);
         if (message.head.word == SAVED) saved_bytes += message.bytes;
@@ -233,7 +233,7 @@ class Follower {
 
     // The processes here.
 
-    void look_here() {
+    void step_here() {
         // mpirun ends all processes, or has ended them
         if (loop.ended_by || link.carrier.ended()) end_children(), _exit(1);
         if (peer.silent_process() >= 0) refuse("no message from process 0 for some seconds");
@@ -247,7 +247,7 @@ class Follower {
         bool is_late = now() >= ending;
         if (is_late) ending = INFINITY;
         if (state == OVER) teams.end_streams(is_late);
-        if (state == SOLVING) teams.look();
+        if (state == SOLVING) teams.schedule();
     }
 
     // What this process sends. Facts that depend on a stream are sent only after the whole stream.

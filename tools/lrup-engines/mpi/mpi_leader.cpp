@@ -16,14 +16,14 @@ class Leader {
   public:
     Leader(const Options &options, Link &connected)
         : run(options), peer(run.inputs.options, run.teams, connected), link(connected) {
-        peer.told = [this](Message &message) { look_at(message); };
+        peer.told = [this](Message &message) { take_message(message); };
         elsewhere.begin = [this] { begin(); };
-        elsewhere.look = [this] { return look(); };
-        elsewhere.next_look = [this] {
-            return is_news(control(), told) ? 0 : std::min(told_at + PULSE, peer.next_look());
+        elsewhere.step = [this] { return step(); };
+        elsewhere.next_step = [this] {
+            return is_news(control(), told) ? 0 : std::min(told_at + PULSE, peer.next_step());
         };
         elsewhere.files = [this] { return link.files(); };
-        elsewhere.details = [this] { details(); };
+        elsewhere.tell_details = [this] { tell_details(); };
         elsewhere.end = [this](bool at_once) { end(at_once); };
         elsewhere.carrier = &link.carrier;
     }
@@ -168,7 +168,7 @@ class Leader {
                std::min<size_t>(message.left(), variables - from));
     }
 
-    void look_at(Message &message) {
+    void take_message(Message &message) {
         Facts facts;
         if (message.head.word == FACTS && message.take(facts)) take_facts(facts);
         if (message.head.word == STREAM) take_stream(message);
@@ -236,8 +236,8 @@ class Leader {
         told_at = now();
     }
 
-    std::string look() {
-        peer.look();
+    std::string step() {
+        peer.step();
         for (size_t k = 0; k < run.teams.size(); k++)
             if (run.teams.is_here(k))
                 peer.exchange.clear(int(k), LOAD(run.teams.engine_status(k).outbox_used));
@@ -251,7 +251,7 @@ class Leader {
     }
 
     // Some lines that cite a clause of another process could be derived without it, too.
-    void details() const {
+    void tell_details() const {
         for (size_t process = 0, k = 0; process < traffic.size(); process++) {
             const Traffic &one = process == 0 ? peer.exchange.traffic : traffic[process];
             uint64_t lines = 0, citing = 0;

@@ -53,10 +53,10 @@ int solve(int count, char **words) {
     link.open(options.engines);
     int all = 0;
     for (int one : link.engines) all += one;
-    another_refuses = link.process != 0;
+    is_reported_elsewhere = link.process != 0;
     if (all > MOST_ENGINES)
         refuse(format("%d engines in all processes: at most %d", all, int(MOST_ENGINES)));
-    another_refuses = false;
+    is_reported_elsewhere = false;
     options.engines = all;
     return link.process == 0 ? lead(options, link) : follow(options, link);
 }
@@ -83,12 +83,12 @@ double Peer::next_exchange() const {
 }
 
 // Time is counted in pulses, and something is sent in each pulse.
-double Peer::next_look() const { return std::min(looked + PULSE, next_exchange()); }
+double Peer::next_step() const { return std::min(stepped + PULSE, next_exchange()); }
 
 // Time in which this process itself was stopped counts as one pulse at most.
-void Peer::look() {
-    double time = now(), passed = std::min(time - looked, PULSE);
-    looked = time;
+void Peer::step() {
+    double time = now(), passed = std::min(time - stepped, PULSE);
+    stepped = time;
     for (double &one : silent) one += passed;
     silent[size_t(link.process)] = 0;
     link.step();

@@ -172,8 +172,8 @@ class Peer {
 
     Peer(const Options &given, Teams &its_teams, Link &connected);
     void open();  // once shared memory exists
-    void look();  // takes messages, and exchanges
-    double next_look() const;
+    void step();  // takes messages, and exchanges
+    double next_step() const;
     int silent_process() const;  // one that has been silent for too long, or -1
     void leave(double seconds);  // takes the others' last messages
 
@@ -185,7 +185,7 @@ class Peer {
     std::deque<Message> kept;  // for tests: messages that come late, after `awaited` gifts
     int awaited = 0;
     std::vector<double> silent;  // by process: seconds
-    double looked = now();
+    double stepped = now();
 
     int first_of(int process) const;  // its first engine, from 0
     double next_exchange() const;
