@@ -17,13 +17,13 @@ from typing import Any, Dict, Iterator, List, Mapping, Tuple, Union
 import pytest
 
 import harness
-from harness import (FILTER, Ran, dimacs, feed, generated, held, needs, piped, random_clauses, run,
-                     started, until, written)
+from harness import (FILTER, LIMIT, Ran, dimacs, feed, generated, held, needs, piped,
+                     random_clauses, run, started, until, written)
 from lrat import lrat_fault
 from mutations import mutated_bytes, mutated_steps
 from proof_forms import FORMS, Clause, Step, read_formula, read_steps
-from solving import (FOR_TESTS, TESTED, Answer, check, check_again, children_of, in_environment,
-                     is_alive, marked, none_left, sleep)
+from solving import (TESTED, Answer, check, check_again, children_of, in_environment, is_alive,
+                     marked, none_left, sleep)
 
 Hooks = Mapping[str, object]
 WINDOWS = (1, 2, 7)
@@ -31,7 +31,7 @@ SUMMARY = re.compile(r"\d+\.\d\d s, ")
 COUNT = harness.COUNT or 200
 A_TEST = 20     # mutants in a test
 
-pytestmark = FOR_TESTS
+pytestmark = pytest.mark.usefixtures("solve_for_tests")
 
 
 def said(answer: Answer) -> Tuple[object, ...]:
@@ -319,7 +319,7 @@ def test_killed(name: str, work: Path) -> None:
         time.sleep(0.2)
         pipe.write(data[half:])
         pipe.close()
-        out, err = running.communicate(timeout=30)
+        out, err = running.communicate(timeout=LIMIT)
     none_left(mark)
     answer = Answer(Ran(out, err, running.returncode))
     if name == "engine 1":
@@ -345,8 +345,9 @@ def test_filters_killed_at_random(seed: int, work: Path) -> None:
         time.sleep(numbers.uniform(0, 0.15))
         pid = children_of(running.pid).get(f"filter {numbers.randrange(1, 4)}", 0)
         if is_alive(pid):
-            os.kill(pid, signal.SIGKILL)
-        out, err = running.communicate(timeout=60)
+            with contextlib.suppress(ProcessLookupError):
+                os.kill(pid, signal.SIGKILL)
+        out, err = running.communicate(timeout=LIMIT)
     none_left(mark)
     answer = Answer(Ran(out, err, running.returncode))
     if (answer.answers, answer.status) != (["s UNSATISFIABLE"], 0):
@@ -377,7 +378,7 @@ def test_killed_between_rounds(name: str, moment: str, work: Path) -> None:
         time.sleep(0.3)
         if stopped == "lrupd":
             os.kill(children[stopped], signal.SIGCONT)
-        out, err = running.communicate(timeout=60)
+        out, err = running.communicate(timeout=LIMIT)
         writer.join()
     none_left(mark)
     answer = Answer(Ran(out, err, running.returncode))
@@ -408,5 +409,5 @@ def test_a_stop_while_a_filter_waits(work: Path) -> None:
         for name in ("filter 3", "filter 1"):
             os.kill(children[name], signal.SIGCONT)
             time.sleep(1)
-        out, err = running.communicate(timeout=30)
+        out, err = running.communicate(timeout=LIMIT)
     assert (running.returncode, err) == (0, ""), out

@@ -491,11 +491,6 @@ def need_much_memory() -> None:
         pytest.skip("less than 4 GB are free")
 
 
-# A mark for rows that are run again if they time out, since other rows may slow them down.
-AGAIN_IF_LATE = pytest.mark.flaky(
-    reruns=1, condition="getattr(sys, 'last_type', type).__name__ == 'TimeoutExpired'")
-
-
 def has_packages() -> bool:
     """Whether CI runs the tests."""
     return bool(os.environ.get("CI"))
