@@ -136,12 +136,6 @@ def tmp_path() -> Iterator[Path]:
         yield Path(folder)
 
 
-@pytest.fixture
-def work(tmp_path: Path) -> Path:
-    """The folder of a row."""
-    return tmp_path
-
-
 @pytest.fixture(params=[[], ["--serial"]], ids=["threads", "serial"])
 def way(request: pytest.FixtureRequest) -> List[str]:
     """The two ways in which lrupd checks streams: each in threads of its own, or in turn."""

@@ -1,8 +1,5 @@
 """Shared by the tests of programs: runs, files and pipes, builds, and tables of runs. conftest.py
-has the options and the fixtures.
-
-In some files a test is a row: a name, a function and its arguments. The function also gets a folder
-of its own, as the last argument."""
+has the options and the fixtures."""
 import contextlib
 import fcntl
 import functools
