@@ -257,7 +257,7 @@ warnings: c-and-python libmd $(HELPS) $(FAULTS) ## check: C and C++ compile with
 
 # Tests of programs, by what they test. Tests of lrup-solve are skipped without CaDiCaL's library,
 # those of --mpi also without MPI, and those of leaks and instructions without valgrind.
-examples: TESTS = program_answers program_groups ## check: compare the program's answers on the examples, and on a few hundred small runs, with the right ones
+examples: TESTS = program_answers program_groups program_reports ## check: compare the program's answers on the examples, and on a few hundred small runs, with the right ones
 live: TESTS = program_live ## check: four recorded solvers, line by line through pipes, checked while they run
 checkpoints: TESTS = program_checkpoints lrup_recheck example_chain ## check: what --checkpoint saves, lrup-recheck, and streams that are cut into rounds
 rounds: TESTS = program_rounds program_rounds_faults program_rounds_alone ## check: runs in rounds: each end and fault, sizes, pipes, and what is saved
@@ -314,8 +314,9 @@ promises: ## check: list what each function of CRATE=name, or of all crates, pro
 
 # mypy.ini has the folders.
 types: ## check: Python's types, by mypy
-	@if command -v mypy > /dev/null && command -v $(firstword $(PYTEST)) > /dev/null; then mypy; \
-	elif [ -n "$$CI" ]; then echo "mypy or pytest isn't installed: run make packages"; exit 1; fi
+	@if command -v mypy > /dev/null && command -v $(firstword $(PYTEST)) > /dev/null && \
+	mypy --config-file= --cache-dir=/dev/null -c 'import hypothesis' > /dev/null; then mypy; \
+	elif [ -n "$$CI" ]; then echo "mypy, pytest or Hypothesis isn't installed: run make packages"; exit 1; fi
 
 # Each script says at its top what it checks.
 pages: c-and-python ## check: the documents, against the sources and each other; needs no prover

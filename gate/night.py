@@ -93,6 +93,9 @@ STEPS = (
     Step("mutants", 90, [], "make rows TESTS=filter_mutants MORE='--first=10000 --count=40000'"),
     Step("filters", 90, ["cadical"],
          "make rows TESTS=lrup_check_filters MORE='-k mutated --first=200 --count=4800'"),
+    Step("properties", 90, [], """
+        make rows TESTS=program_reports MORE=--count=20000 &&
+        make rows TESTS=lrup_solve_steps MORE='-m nightly'"""),
     Step("mpi", 60, ["mpicxx"], "make rows TESTS=lrup_solve_mpi MORE='-m long'"),
     Step("clang", 90, ["clang++"], f"""
         {CLANG} tools && {{ ! command -v mpicxx || {CLANG} solve-mpi; }} && {CLANG} rows \\

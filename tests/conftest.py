@@ -85,6 +85,23 @@ def pytest_runtest_makereport() -> Reported:
 
 
 @pytest.hookimpl(hookwrapper=True)  # type: ignore[misc]
+def pytest_report_to_serializable() -> Reported:
+    """Workers of xdist can't send what isn't Unicode, such as a program's bytes in a message."""
+    outcome = yield
+    outcome.force_result(as_unicode(outcome.get_result()))
+
+
+def as_unicode(value: Any) -> Any:
+    if isinstance(value, str):
+        return value.encode(errors="backslashreplace").decode()
+    if isinstance(value, dict):
+        return {key: as_unicode(one) for key, one in value.items()}
+    if isinstance(value, (list, tuple)):
+        return type(value)(map(as_unicode, value))
+    return value
+
+
+@pytest.hookimpl(hookwrapper=True)  # type: ignore[misc]
 def pytest_make_collect_report() -> Reported:
     outcome = yield
     fail_if_skipped_in_ci(outcome.get_result())
@@ -136,12 +153,6 @@ def tmp_path() -> Iterator[Path]:
         yield Path(folder)
 
 
-@pytest.fixture
-def work(tmp_path: Path) -> Path:
-    """The folder of a row."""
-    return tmp_path
-
-
 @pytest.fixture(params=[[], ["--serial"]], ids=["threads", "serial"])
 def way(request: pytest.FixtureRequest) -> List[str]:
     """The two ways in which lrupd checks streams: each in threads of its own, or in turn."""
@@ -149,9 +160,11 @@ def way(request: pytest.FixtureRequest) -> List[str]:
 
 
 @pytest.fixture
-def much_memory() -> None:
-    """For a test that takes up to 2 GB."""
-    harness.need_much_memory()
+def much_memory() -> Iterator[None]:
+    """For a test that takes up to 2 GB. No other one runs at the same time."""
+    with harness.alone(harness.BUILDS / "memory.lock"):
+        harness.need_much_memory()
+        yield
 
 
 @pytest.fixture

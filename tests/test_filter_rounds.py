@@ -490,9 +490,6 @@ def test_usage(words: str, cause: str, tmp_path: Path) -> None:
 
 # If either side ends early, the other doesn't wait forever.
 
-# When one side is killed, the other may be anywhere in its round.
-KILLED = pytest.mark.flaky(reruns=2)
-
 
 def gone(number: int) -> str:
     return GONE + f"d/round-{number}.stream-1\n"
@@ -557,7 +554,6 @@ def in_a_round(work: Path) -> Iterator[Sides]:
             yield Sides(running, checking, pipe, proof[half:])
 
 
-@KILLED
 def test_lrupd_is_killed(tmp_path: Path) -> None:
     """Nobody will read the next stream. The current stream can't be written, or was written just
     before lrupd was killed."""
@@ -570,7 +566,6 @@ def test_lrupd_is_killed(tmp_path: Path) -> None:
                         rf"step \d+, byte \d+: {GONE}d/round-\d+\.stream-1)\n", filter_said)
 
 
-@KILLED
 @pytest.mark.parametrize("by", [signal.SIGKILL, signal.SIGTERM])
 def test_the_filter_is_killed(by: signal.Signals, tmp_path: Path) -> None:
     with in_a_round(tmp_path) as sides:
@@ -598,7 +593,6 @@ def sleeps(pid: int) -> bool:
     return of_process(pid, "stat").rsplit(")", 1)[-1].split()[:1] == ["S"]
 
 
-@KILLED
 @each_signal
 def test_ended_while_lrupd_waits(by: signal.Signals, tmp_path: Path) -> None:
     """lrupd is at the FIFO, but the filter isn't yet: lrupd gets an empty stream."""

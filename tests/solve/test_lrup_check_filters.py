@@ -17,13 +17,13 @@ from typing import Any, Dict, Iterator, List, Mapping, Tuple, Union
 import pytest
 
 import harness
-from harness import (FILTER, Ran, dimacs, feed, generated, held, needs, piped, random_clauses, run,
-                     started, until, written)
+from harness import (FILTER, LIMIT, Ran, dimacs, feed, generated, held, needs, piped,
+                     random_clauses, run, started, until, written)
 from lrat import lrat_fault
 from mutations import mutated_bytes, mutated_steps
 from proof_forms import FORMS, Clause, Step, read_formula, read_steps
-from solving import (FOR_TESTS, TESTED, Answer, check, check_again, children_of, in_environment,
-                     is_alive, marked, none_left, sleep)
+from solving import (TESTED, Answer, check, check_again, children_of, in_environment, is_alive,
+                     marked, none_left, sleep)
 
 Hooks = Mapping[str, object]
 WINDOWS = (1, 2, 7)
@@ -31,7 +31,7 @@ SUMMARY = re.compile(r"\d+\.\d\d s, ")
 COUNT = harness.COUNT or 200
 A_TEST = 20     # mutants in a test
 
-pytestmark = FOR_TESTS
+pytestmark = pytest.mark.usefixtures("solve_for_tests")
 
 
 def said(answer: Answer) -> Tuple[object, ...]:
@@ -73,9 +73,9 @@ def in_form(form: str, seed: int, work: Path) -> Tuple[Path, Path]:
 
 @pytest.mark.parametrize("window", WINDOWS)
 @pytest.mark.parametrize("form", FORMS)
-def test_right_proofs(form: str, window: int, work: Path) -> None:
+def test_right_proofs(form: str, window: int, tmp_path: Path) -> None:
     for seed in range(3):
-        formula, proof = in_form(form, seed, work)
+        formula, proof = in_form(form, seed, tmp_path)
         for filters in (1, 2, 3, 5):
             answer = check(["-j", filters, formula, proof], tested={"WINDOW": window})
             assert said(answer) == (["s UNSATISFIABLE"], 0, "", [])
@@ -89,39 +89,39 @@ def long_proof(form: str, work: Path) -> Tuple[Path, Path]:
     return formula, written(b"".join(FORMS[form][1](read_formula(formula), steps)), work, "proof")
 
 
-def test_before_lrupd_starts(work: Path) -> None:
+def test_before_lrupd_starts(tmp_path: Path) -> None:
     """lrupd starts late, since the streams are short, but filters don't wait for it."""
-    answer = check(["-j", 2, *long_proof("binary DRAT", work)], tested={"WINDOW": 1})
+    answer = check(["-j", 2, *long_proof("binary DRAT", tmp_path)], tested={"WINDOW": 1})
     assert said(answer) == (["s UNSATISFIABLE"], 0, "", [])
 
 
 @pytest.mark.parametrize("window", (1, 7, 40))
 @pytest.mark.parametrize("form", ("LRAT text", "DRAT text", "binary DRAT", "FRAT with some hints"))
-def test_in_rounds(form: str, window: int, work: Path) -> None:
+def test_in_rounds(form: str, window: int, tmp_path: Path) -> None:
     """Filters end each round at the same step, and the record is checked again."""
-    formula, proof = long_proof(form, work)
+    formula, proof = long_proof(form, tmp_path)
     hooks = {"WINDOW": window, "FIRST_WORDS": 6000, "SAME_WORDS": 1}
-    answer = check(["-v", "-j", 3, "--proofs", work / "kept", formula, proof], tested=hooks)
+    answer = check(["-v", "-j", 3, "--proofs", tmp_path / "kept", formula, proof], tested=hooks)
     assert (answer.answers, answer.status) == (["s UNSATISFIABLE"], 0), answer.out
     assert not any("one filter" in line for line in answer.comments), answer.out
     assert sum(line.startswith("round ") for line in answer.comments) >= 2, answer.out
-    check_again(work / "kept")
+    check_again(tmp_path / "kept")
 
 
-def test_core_and_lrat(work: Path) -> None:
-    formula, proof = in_form("binary DRAT", 1, work)
-    outputs = ["--core", work / "core", "--lrat", work / "lrat"]
+def test_core_and_lrat(tmp_path: Path) -> None:
+    formula, proof = in_form("binary DRAT", 1, tmp_path)
+    outputs = ["--core", tmp_path / "core", "--lrat", tmp_path / "lrat"]
     answer = check(["-j", 3, *outputs, formula, proof], tested={"WINDOW": 2})
     assert (answer.answers, answer.status) == (["s UNSATISFIABLE"], 0), answer.out
-    assert lrat_fault(read_formula(formula), (work / "lrat").read_text()) == ""
+    assert lrat_fault(read_formula(formula), (tmp_path / "lrat").read_text()) == ""
 
 
 @pytest.mark.parametrize("filters", (1, 2, 4))
-def test_assumptions(filters: int, work: Path) -> None:
+def test_assumptions(filters: int, tmp_path: Path) -> None:
     """The clause that contradicts the assumptions isn't empty, and ends the proof for all."""
-    formula = written("p cnf 4 3\n-1 2 0\n-2 3 0\n-3 4 0\n", work)
-    proof = written("-1 3 0\n-1 4 0\nnonsense\n", work, "proof")
-    assumed = written("1 -4 0\n", work, "assumptions")
+    formula = written("p cnf 4 3\n-1 2 0\n-2 3 0\n-3 4 0\n", tmp_path)
+    proof = written("-1 3 0\n-1 4 0\nnonsense\n", tmp_path, "proof")
+    assumed = written("1 -4 0\n", tmp_path, "assumptions")
     answer = check(["-j", filters, "--assume", assumed, formula, proof], tested={"WINDOW": 1})
     assert said(answer) == (["s UNSATISFIABLE UNDER ASSUMPTIONS"], 8, "", [])
 
@@ -156,29 +156,29 @@ def check_once(way: str, words: List[object], formula: Path, proof: Path, tested
 
 
 @pytest.mark.parametrize("way", WAYS)
-def test_once(way: str, work: Path) -> None:
-    formula, proof = in_form("binary DRAT", 2, work)
+def test_once(way: str, tmp_path: Path) -> None:
+    formula, proof = in_form("binary DRAT", 2, tmp_path)
     answer = check_once(way, ["-j", 3], formula, proof, {"WINDOW": 2})
     assert said(answer) == (["s UNSATISFIABLE"], 0, "", [])
 
 
 @pytest.mark.parametrize("way", WAYS)
-def test_once_in_rounds(way: str, work: Path) -> None:
-    formula, proof = long_proof("LRAT text", work)
-    answer = check_once(way, ["-v", "-j", 3, "--proofs", work / "kept"], formula, proof,
+def test_once_in_rounds(way: str, tmp_path: Path) -> None:
+    formula, proof = long_proof("LRAT text", tmp_path)
+    answer = check_once(way, ["-v", "-j", 3, "--proofs", tmp_path / "kept"], formula, proof,
                         {"WINDOW": 7, "FIRST_WORDS": 6000, "SAME_WORDS": 1})
     assert (answer.answers, answer.status) == (["s UNSATISFIABLE"], 0), answer.out
     assert sum(line.startswith("round ") for line in answer.comments) >= 2, answer.out
-    check_again(work / "kept")
+    check_again(tmp_path / "kept")
 
 
 ONE_CHECKS = "one filter checks it, from its beginning"
 
 
 @pytest.mark.parametrize("way", WAYS)
-def test_once_and_from_the_beginning(way: str, work: Path) -> None:
+def test_once_and_from_the_beginning(way: str, tmp_path: Path) -> None:
     """One filter takes the proof, of which several have read a part."""
-    formula, proof = too_long_for_windows(work, 1000)
+    formula, proof = too_long_for_windows(tmp_path, 1000)
     answer = check_once(way, ["-v", "-j", 2], formula, proof, {"WINDOW": 1})
     assert (answer.answers, answer.status) == (["s UNSATISFIABLE"], 0), answer.out
     assert any(line.endswith(ONE_CHECKS) for line in answer.comments), answer.out
@@ -186,26 +186,26 @@ def test_once_and_from_the_beginning(way: str, work: Path) -> None:
 
 @pytest.mark.parametrize("hooks, proved", (({}, True), ({"PROOF_KEPT": 100000}, True),
                                            ({"PROOF_KEPT": 100}, False)))
-def test_how_much_is_kept(hooks: Hooks, proved: bool, work: Path) -> None:
+def test_how_much_is_kept(hooks: Hooks, proved: bool, tmp_path: Path) -> None:
     """A proof that takes too much room isn't kept, so no other filter can take it."""
-    files = work / "files"
+    files = tmp_path / "files"
     files.mkdir()
-    formula, proof = too_long_for_windows(work, 1000)
+    formula, proof = too_long_for_windows(tmp_path, 1000)
     assert 100 < proof.stat().st_size < 100000
     answer = check_once("a FIFO", ["-j", 2], formula, proof, {"WINDOW": 1, **hooks},
                         more={"TMPDIR": str(files)})
     assert (answer.status == 0) == proved, answer.out
     assert proved or "longer than a line may be" in answer.comments[0]
     assert not list(files.iterdir())
-    formula, proof = in_form("binary DRAT", 2, work)
+    formula, proof = in_form("binary DRAT", 2, tmp_path)
     answer = check_once("standard input", ["-j", 3], formula, proof, {"WINDOW": 2, **hooks})
     assert said(answer) == (["s UNSATISFIABLE"], 0, "", [])
 
 
-def test_a_fifo_has_no_writer(work: Path) -> None:
+def test_a_fifo_has_no_writer(tmp_path: Path) -> None:
     """Before a writer comes, a FIFO isn't at its end; nor is it without a reader later."""
-    formula, proof = too_long_for_windows(work, 1000)
-    pipe, data = piped(work / "pipe"), proof.read_bytes()
+    formula, proof = too_long_for_windows(tmp_path, 1000)
+    pipe, data = piped(tmp_path / "pipe"), proof.read_bytes()
     writer = threading.Timer(1, pipe.write_bytes, [data])
     writer.daemon = True
     writer.start()
@@ -228,11 +228,11 @@ def mutant(number: int, work: Path) -> Tuple[Path, Path]:
 
 
 @pytest.mark.parametrize("first", range(harness.FIRST, harness.FIRST + COUNT, A_TEST))
-def test_mutated_proofs(first: int, work: Path) -> None:
+def test_mutated_proofs(first: int, tmp_path: Path) -> None:
     """The first wrong step is the same, and is told in the same words."""
     for number in range(first, min(first + A_TEST, harness.FIRST + COUNT)):
         numbers = random.Random(number)
-        formula, proof = mutant(number, work)
+        formula, proof = mutant(number, tmp_path)
         one = check(["-j", 1, formula, proof], tested={})
         filters, window = numbers.choice((2, 3, 5)), numbers.choice(WINDOWS)
         hooks: Dict[str, object] = {"WINDOW": window}
@@ -250,10 +250,10 @@ WRONG_LATER = "1 2 0\n3 0\n4 0\n0\n"
 
 
 @pytest.mark.parametrize("filters", (1, 2, 3))
-def test_the_first_wrong_step_counts(filters: int, work: Path) -> None:
+def test_the_first_wrong_step_counts(filters: int, tmp_path: Path) -> None:
     """Each of three steps is wrong, in the windows of three filters."""
-    formula = written(dimacs(4, [[1, 2, 3], [-1, 2, 4], [3, 4]]), work)
-    proof = written(WRONG_LATER, work, "proof")
+    formula = written(dimacs(4, [[1, 2, 3], [-1, 2, 4], [3, 4]]), tmp_path)
+    proof = written(WRONG_LATER, tmp_path, "proof")
     answer = check(["-j", filters, formula, proof], tested={"WINDOW": 1})
     assert (answer.answers, answer.status) == (["s UNKNOWN"], 3)
     assert answer.comments[0].startswith(
@@ -269,17 +269,17 @@ def too_long_for_windows(work: Path, before: int) -> Tuple[Path, Path]:
     return formula, written(f"{easy}{size} 0\n0\n", work, "proof")
 
 
-def test_a_clause_too_long_for_windows(work: Path) -> None:
+def test_a_clause_too_long_for_windows(tmp_path: Path) -> None:
     """One filter checks the proof."""
-    formula, proof = too_long_for_windows(work, 0)
+    formula, proof = too_long_for_windows(tmp_path, 0)
     answer = check(["-v", "-j", 2, formula, proof], tested={"WINDOW": 1})
     assert (answer.answers, answer.status) == (["s UNSATISFIABLE"], 0), answer.out
     assert f"{proof}: {ONE_CHECKS}" in answer.comments
 
 
-def test_no_room_for_several_filters(work: Path) -> None:
+def test_no_room_for_several_filters(tmp_path: Path) -> None:
     """The clauses that several filters keep don't fit into a row; those of one filter do."""
-    formula, proof = long_proof("binary DRAT", work)
+    formula, proof = long_proof("binary DRAT", tmp_path)
     words = ["-v", "--memory", "20000,40000", formula, proof]
     hooks = {"WINDOW": 7, "FIRST_WORDS": 6000}
     answer = check(["-j", 3, *words], tested=hooks)
@@ -305,13 +305,13 @@ FILTERS = ("filter 1", "filter 2", "filter 3")
 
 
 @pytest.mark.parametrize("name", (*FILTERS, "engine 1"))
-def test_killed(name: str, work: Path) -> None:
+def test_killed(name: str, tmp_path: Path) -> None:
     """If a filter is killed, one filter checks the proof, which comes from a pipe, from its
     beginning. Without the process that reads the proof, there is no answer."""
-    mark, (formula, proof) = marked(work), in_form("LRAT text", 1, work)
-    pipe, data = held(work / "pipe"), proof.read_bytes()
+    mark, (formula, proof) = marked(tmp_path), in_form("LRAT text", 1, tmp_path)
+    pipe, data = held(tmp_path / "pipe"), proof.read_bytes()
     half = data.index(b"\n", len(data) // 2) - 1
-    with running_check(formula, work / "pipe", {"WINDOW": 1}) as running:
+    with running_check(formula, tmp_path / "pipe", {"WINDOW": 1}) as running:
         pipe.write(data[:half])
         until(f"{name} is there", lambda: name in children_of(running.pid))
         time.sleep(0.2)
@@ -319,34 +319,35 @@ def test_killed(name: str, work: Path) -> None:
         time.sleep(0.2)
         pipe.write(data[half:])
         pipe.close()
-        out, err = running.communicate(timeout=30)
+        out, err = running.communicate(timeout=LIMIT)
     none_left(mark)
     answer = Answer(Ran(out, err, running.returncode))
     if name == "engine 1":
         assert (answer.answers, answer.status) == (["s UNKNOWN"], 3), out
     else:
-        cause = f"{work}/pipe: a filter ended by a signal: Killed, so {ONE_CHECKS}"
+        cause = f"{tmp_path}/pipe: a filter ended by a signal: Killed, so {ONE_CHECKS}"
         assert cause in answer.comments, out
         assert (answer.answers, answer.status) == (["s UNSATISFIABLE"], 0), out
 
 
 @pytest.mark.parametrize("seed", range(16))
-def test_filters_killed_at_random(seed: int, work: Path) -> None:
+def test_filters_killed_at_random(seed: int, tmp_path: Path) -> None:
     """The answer is right, whatever the others are doing, in a round or between two, unless the one
     that has taken the proof is killed. No process is left."""
-    mark, numbers = marked(work), random.Random(seed)
-    formula, proof = in_form(numbers.choice(list(FORMS)), seed, work)
+    mark, numbers = marked(tmp_path), random.Random(seed)
+    formula, proof = in_form(numbers.choice(list(FORMS)), seed, tmp_path)
     hooks = {"WINDOW": numbers.choice(WINDOWS), "FIRST_WORDS": 3000, "SAME_WORDS": 1}
     given: object = proof
     if seed % 2:
-        given = piped(work / "pipe")
-        feed(work / "pipe", [proof.read_bytes()])
+        given = piped(tmp_path / "pipe")
+        feed(tmp_path / "pipe", [proof.read_bytes()])
     with running_check(formula, given, hooks) as running:
         time.sleep(numbers.uniform(0, 0.15))
         pid = children_of(running.pid).get(f"filter {numbers.randrange(1, 4)}", 0)
         if is_alive(pid):
-            os.kill(pid, signal.SIGKILL)
-        out, err = running.communicate(timeout=60)
+            with contextlib.suppress(ProcessLookupError):
+                os.kill(pid, signal.SIGKILL)
+        out, err = running.communicate(timeout=LIMIT)
     none_left(mark)
     answer = Answer(Ran(out, err, running.returncode))
     if (answer.answers, answer.status) != (["s UNSATISFIABLE"], 0):
@@ -357,14 +358,14 @@ def test_filters_killed_at_random(seed: int, work: Path) -> None:
 
 @pytest.mark.parametrize("moment", ("ENDING", "SAVING"))
 @pytest.mark.parametrize("name", FILTERS)
-def test_killed_between_rounds(name: str, moment: str, work: Path) -> None:
+def test_killed_between_rounds(name: str, moment: str, tmp_path: Path) -> None:
     """A filter is killed once all have ended a round, which lrupd can't save yet; or once another
     one has."""
-    mark, (formula, proof) = marked(work), long_proof("LRAT text", work)
+    mark, (formula, proof) = marked(tmp_path), long_proof("LRAT text", tmp_path)
     hooks = {"WINDOW": 7, "FIRST_WORDS": 6000, "SAME_WORDS": 1, "TRIES": 1000000}
     stopped = "lrupd" if moment == "SAVING" else FILTERS[FILTERS.index(name) - 1]
-    pipe, data = held(work / "pipe"), proof.read_bytes()
-    with running_check(formula, work / "pipe", hooks) as running:
+    pipe, data = held(tmp_path / "pipe"), proof.read_bytes()
+    with running_check(formula, tmp_path / "pipe", hooks) as running:
         until("all are there", lambda: {*FILTERS} <= {*children_of(running.pid)})
         pipe.write(data[:2000])
         until("lrupd is there", lambda: "lrupd" in children_of(running.pid))
@@ -377,7 +378,7 @@ def test_killed_between_rounds(name: str, moment: str, work: Path) -> None:
         time.sleep(0.3)
         if stopped == "lrupd":
             os.kill(children[stopped], signal.SIGCONT)
-        out, err = running.communicate(timeout=60)
+        out, err = running.communicate(timeout=LIMIT)
         writer.join()
     none_left(mark)
     answer = Answer(Ran(out, err, running.returncode))
@@ -385,7 +386,7 @@ def test_killed_between_rounds(name: str, moment: str, work: Path) -> None:
     assert any("Killed" in line and line.endswith(ONE_CHECKS) for line in answer.comments), out
 
 
-def test_a_stop_while_a_filter_waits(work: Path) -> None:
+def test_a_stop_while_a_filter_waits(tmp_path: Path) -> None:
     """Filter 2 waits, as far ahead as it may be of filter 1, which hasn't begun. Then filter 3
     refutes the formula at an earlier step. Until filter 1 has caught up, lrupd gets nothing that
     cites filter 1's clauses, for which it wouldn't wait long."""
@@ -394,10 +395,10 @@ def test_a_stop_while_a_filter_waits(work: Path) -> None:
     steps = [f"{len(clauses) + k} {k + 1} 0 {1 if k == 1 else len(clauses) + k - 1} {k + 1} 0\n"
              for k in range(1, size - 1)]
     steps[last] = f"{len(clauses) + last + 1} {last + 2} 0 0\n"       # needs propagation
-    formula = written(dimacs(size, clauses), work)
-    pipe = held(work / "pipe")
+    formula = written(dimacs(size, clauses), tmp_path)
+    pipe = held(tmp_path / "pipe")
     hooks = {"WINDOW": 1, "FIRST_WORDS": 1 << 20, "TRIES": 1000}
-    with running_check(formula, work / "pipe", hooks) as running:
+    with running_check(formula, tmp_path / "pipe", hooks) as running:
         until("all are there", lambda: {*FILTERS} <= {*children_of(running.pid)})
         children = children_of(running.pid)
         for name in ("filter 1", "filter 3"):
@@ -408,5 +409,5 @@ def test_a_stop_while_a_filter_waits(work: Path) -> None:
         for name in ("filter 3", "filter 1"):
             os.kill(children[name], signal.SIGCONT)
             time.sleep(1)
-        out, err = running.communicate(timeout=30)
+        out, err = running.communicate(timeout=LIMIT)
     assert (running.returncode, err) == (0, ""), out

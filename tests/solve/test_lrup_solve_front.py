@@ -15,15 +15,13 @@ from typing import Iterator, List, Sequence
 
 import pytest
 
-from harness import (AGAIN_IF_LATE, FOUR, LIMIT, PROGRAM, ROOT, Ran, named, run, started, until,
-                     written)
+from harness import FOUR, LIMIT, PROGRAM, ROOT, Ran, named, run, started, until, written
 from hostile import (AGAIN, FOUND, PROOF, PROVED, SATISFIABLE, UNDER, UNKNOWN, assert_answer,
                      is_model, printed, program, run_with)
 from solving import (SOLVE, Answer, before_lrupd, children_of, in_place_of_lrupd, marked, none_left,
                      with_model)
 
-# A wrong answer is never tried again.
-pytestmark = [pytest.mark.usefixtures("lrup_solve"), AGAIN_IF_LATE]
+pytestmark = pytest.mark.usefixtures("lrup_solve")
 FRONT = ROOT / "tools" / "lrup-solve" / "front.c"
 UNCHECKED = "c the run ended before lrup-model had checked the model\ns UNKNOWN\n"
 ENDS = "hears('lrupd')\n"

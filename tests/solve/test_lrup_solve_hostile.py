@@ -19,16 +19,15 @@ from typing import Dict, Iterator, List, NamedTuple, Sequence, Tuple
 
 import pytest
 
-from harness import (AGAIN_IF_LATE, BUILDS, COUNT, FOUR, LIMIT, MODEL, ROOT, SUPPORT, Ran, alone,
-                     compiled, dimacs, is_newer, random_clauses, run, started, until, written)
+from harness import (BUILDS, COUNT, FOUR, LIMIT, MODEL, ROOT, SUPPORT, Ran, alone, compiled, dimacs,
+                     is_newer, random_clauses, run, started, until, written)
 from hostile import (FOUND, PROOF, PROVED, SATISFIABLE, STATUSES, UNDER, UNKNOWN, is_model, printed,
                      run_with)
 from hostile_programs import COMMON, PROGRAMS, PROVING, SATISFYING, Program, programs
 from solving import (EARLY, FRONT, FRONTS_FLAGS, SOLVE, Answer, command, end_all, in_environment,
                      marked, of_process, processes_of, processes_of_run, solve, with_model)
 
-# A wrong answer is never tried again.
-pytestmark = [pytest.mark.usefixtures("solve_for_tests"), AGAIN_IF_LATE]
+pytestmark = pytest.mark.usefixtures("solve_for_tests")
 SIGNALS = COUNT or 60
 A_SECOND = ["-q", "--time", "1"]
 

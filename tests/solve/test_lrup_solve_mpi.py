@@ -27,8 +27,7 @@ from records import recorded, saved_rounds, way_on, whole
 from solving import (Answer, built, check_again, children_of, command, in_environment, is_alive,
                      marked, of_process, want_answer)
 
-# The busier the machine is, the longer messages take, and the sooner a process counts as lost.
-pytestmark = [pytest.mark.usefixtures("mpi"), pytest.mark.flaky(reruns=2)]
+pytestmark = pytest.mark.usefixtures("mpi")
 # Rows that don't grow, and frequent exchanges.
 SMALL = {"SAME_WORDS": 1, "SLICE": 100, "EXCHANGING": 50}
 # Seconds that mpirun waits before it kills processes, so that they can still report the cause.

@@ -26,8 +26,6 @@ from solving import (EARLY, Answer, check_again, children_of, command, end_group
                      rests_on, says, sleep, solve, want_answer, want_cause)
 
 pytestmark = pytest.mark.usefixtures("solve_for_tests")
-# lrupd may have saved by the time when it is stopped.
-STOPPED_LATE = pytest.mark.flaky(reruns=2)
 SMALL = {"SAME_WORDS": 1, "SLICE": 40}      # rows that don't grow
 TRIES = 10
 KILLED = "lrupd ended by a signal: Killed$"
@@ -249,14 +247,14 @@ class Running:
                                         stderr=subprocess.PIPE, text=True,
                                         env=in_environment(hooks, more), start_new_session=True)
         self.children: Dict[str, int] = {}
+        self.next = 0       # the round that follows the pause
 
     def __enter__(self) -> "Running":
         try:
             until(f"round {self.number}, or the end", self.has_come)
             if self.pause:
-                self.stop_lrupd()
                 until("the pause, or the end",
-                      lambda: bool(self.rounds("sizes")) or self.process.poll() is not None)
+                      lambda: self.is_paused() or self.process.poll() is not None)
         except AssertionError:
             self.__exit__()
             raise
@@ -265,15 +263,32 @@ class Running:
     def __exit__(self, *_: object) -> None:
         end_group(self.process)
 
-    def rounds(self, what: str) -> List[int]:
-        """Rounds that have a file of this name in lrupd's folder."""
+    def files(self, what: str) -> Dict[int, Path]:
+        """The files of this name in lrupd's folder, by their rounds."""
         names = [name for place in (".rounds-*", "lrup-solve-*")
                  for name in glob.glob(f"{self.work}/*/{place}/round-*.{what}")]
-        return [int(re.findall(r"\d+", name)[-1]) for name in names]
+        return {int(re.findall(r"\d+", name)[-1]): Path(name) for name in names}
+
+    def rounds(self, what: str) -> List[int]:
+        return list(self.files(what))
 
     def has_come(self) -> bool:
         self.children = {**self.children, **children_of(self.process.pid)}
         return max(self.rounds("cnf"), default=0) > self.number or self.process.poll() is not None
+
+    def is_paused(self) -> bool:
+        """Whether lrupd is stopped after a round's end, and has saved nothing of it. If it has, it
+        goes on."""
+        self.stop_lrupd()
+        pid = self.children.get("lrupd", 0)
+        until("lrupd stops", lambda: of_process(pid, "stat").rsplit(")", 1)[-1][1:2] in "TZ")
+        for number in self.rounds("sizes"):
+            with contextlib.suppress(KeyError, FileNotFoundError):      # others have removed it
+                if self.files("cnf")[number].stat().st_size == 0:
+                    self.next = number
+                    return True
+            self.stop_lrupd(signal.SIGCONT)
+        return False
 
     def stop_lrupd(self, number: int = signal.SIGSTOP) -> None:
         with contextlib.suppress(ProcessLookupError, KeyError):
@@ -346,7 +361,6 @@ def test_killed_in_a_pause(names: List[str], status: int, cause: str, has_record
     kill(words, 1, True, 150000, names, status, cause, tmp_path)
 
 
-@STOPPED_LATE
 @pytest.mark.parametrize("round_number, pause", [(3, False), (1, True), (2, True)])
 @pytest.mark.parametrize("number", [signal.SIGINT, signal.SIGTERM, signal.SIGHUP, signal.SIGKILL])
 def test_ended_by_a_signal(number: signal.Signals, round_number: int, pause: bool,
@@ -364,7 +378,6 @@ def test_ended_by_a_signal(number: signal.Signals, round_number: int, pause: boo
         assert answer.answers == ["s UNKNOWN"]
 
 
-@STOPPED_LATE
 @pytest.mark.parametrize("pause", [False, True])
 def test_filters_wait_while_lrupd_is_stopped(pause: bool, tmp_path: Path) -> None:
     """Filters wait in the pause until lrupd saves, and in a round because
@@ -399,7 +412,6 @@ def is_whole(path: Path) -> bool:
     return bool(lines) and lines[0].endswith(f" {len(lines) - 1}\n")
 
 
-@STOPPED_LATE
 def test_a_forged_checkpoint(tmp_path: Path) -> None:
     """A contradiction replaces lrupd's checkpoint before anybody has read it: the filters miss
     their clauses. lrupd doesn't read the replacement, so no verdict depends on it."""
@@ -407,8 +419,7 @@ def test_a_forged_checkpoint(tmp_path: Path) -> None:
                  FIRST_WORDS=50000) as running:
         os.kill(running.children["lrup-engines"], signal.SIGSTOP)
         running.go_on()
-        number, = running.rounds("sizes")
-        saved, = running.folder.glob(f"*/round-{number}.cnf")
+        saved = running.files("cnf")[running.next]
         until("it is saved", lambda: is_whole(saved))
         saved.unlink()
         written("p cnf 2 2\n1 0\n-1 0\n", saved.parent, saved.name)
@@ -420,7 +431,6 @@ def test_a_forged_checkpoint(tmp_path: Path) -> None:
         assert re.search(r"lrupd hasn't saved the clause \d+, which the solver has$", line), line
 
 
-@STOPPED_LATE
 @pytest.mark.parametrize("how", ["link", "file"])
 def test_a_file_in_place_of_a_stream(how: str, tmp_path: Path) -> None:
     """A file that replaces a stream of the next round, just before a filter opens it, isn't written
@@ -430,8 +440,7 @@ def test_a_file_in_place_of_a_stream(how: str, tmp_path: Path) -> None:
                  True, FIRST_WORDS=150000) as running:
         os.kill(running.children["filter 1"], signal.SIGSTOP)
         running.go_on()
-        number, = running.rounds("sizes")
-        place = kept / f"round-{number}.stream-1"
+        place = kept / f"round-{running.next}.stream-1"
         until("it is made", place.exists)
         link_over(place, mine, how)
         os.kill(running.children["filter 1"], signal.SIGCONT)
@@ -441,7 +450,6 @@ def test_a_file_in_place_of_a_stream(how: str, tmp_path: Path) -> None:
     assert mine.read_text() == "mine"
 
 
-@STOPPED_LATE
 def test_another_folder_takes_the_name(tmp_path: Path) -> None:
     """If another folder takes the record's name, nothing in it is overwritten, and the record is
     complete where it is now."""

@@ -29,8 +29,6 @@ from hostile_programs import COMMON
 from solving import FRONTS_FLAGS, Answer, in_place_of_lrupd, with_model
 
 pytestmark = pytest.mark.usefixtures("lrup_solve")
-# On a busy machine an attack may come too late.
-MAY_BE_LATE = pytest.mark.flaky(reruns=2)
 FOLDER = ROOT / "tools" / "lrup-solve"
 MARK = re.compile(r"// trusted \(([^)]*)\)")
 LINES = (FOLDER / "front.c").read_text().splitlines(keepends=True)
@@ -341,20 +339,23 @@ def test_each_mark_has_an_attack_and_each_attack_a_mark() -> None:
     assert sorted(MARKS.values()) == sorted(ATTACKS)
 
 
-@MAY_BE_LATE
 @pytest.mark.parametrize("number, name", named(
     (name, number, name) for number, name in MARKS.items() if name in ATTACKS))
 def test_a_wrong_answer_without_a_trusted_line(number: int, name: str, tmp_path: Path) -> None:
-    """The same attack gets none from the whole front."""
-    without, whole = tmp_path / "without", tmp_path / "whole"
-    without.mkdir()
+    """The same attack gets none from the whole front. There are up to three on the one without the
+    line, since on a busy machine an attack may come too late."""
+    def succeeds(attempt: int) -> bool:
+        without = tmp_path / f"without-{attempt}"
+        without.mkdir()
+        front = compiled_front(source_without(range(number, number + 1)), without)
+        return ATTACKS[name](front, without)
+
+    assert any(map(succeeds, range(3))), LINES[number]
+    whole = tmp_path / "whole"
     whole.mkdir()
-    front = compiled_front(source_without(range(number, number + 1)), without)
-    assert ATTACKS[name](front, without), LINES[number]
     assert not ATTACKS[name](whole_front(whole), whole)
 
 
-@MAY_BE_LATE
 @pytest.mark.parametrize("name", OTHER_ATTACKS)
 def test_no_wrong_answer_of_the_whole_front(name: str, tmp_path: Path) -> None:
     assert not OTHER_ATTACKS[name](whole_front(tmp_path), tmp_path)

@@ -1,8 +1,5 @@
 """Shared by the tests of programs: runs, files and pipes, builds, and tables of runs. conftest.py
-has the options and the fixtures.
-
-In some files a test is a row: a name, a function and its arguments. The function also gets a folder
-of its own, as the last argument."""
+has the options and the fixtures."""
 import contextlib
 import fcntl
 import functools
@@ -491,11 +488,6 @@ def need_much_memory() -> None:
     available = re.search(r"^MemAvailable: +(\d+)", Path("/proc/meminfo").read_text(), re.M)
     if not available or int(available[1]) < 4_000_000:
         pytest.skip("less than 4 GB are free")
-
-
-# A mark for rows that are run again if they time out, since other rows may slow them down.
-AGAIN_IF_LATE = pytest.mark.flaky(
-    reruns=1, condition="getattr(sys, 'last_type', type).__name__ == 'TimeoutExpired'")
 
 
 def has_packages() -> bool:

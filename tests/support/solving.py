@@ -15,8 +15,6 @@ import time
 from pathlib import Path
 from typing import Any, Callable, Dict, List, Mapping, Optional, Sequence, Tuple
 
-import pytest
-
 from harness import (BUILDS, FLAGS, MODEL, OUT, PROGRAM, ROOT, USUAL_FLAGS, VERDICTS, Ran, alone,
                      dimacs, is_newer, lacking, random_clauses, run, until, written)
 from proof_forms import read_formula
@@ -241,12 +239,15 @@ def waits_of(pid: int) -> int:
 
 def sleep(pids: Sequence[int]) -> None:
     """Waits until none of the processes has woken up for a second, according to the system's count
-    of their waits."""
-    def all_slept() -> bool:
-        before = [waits_of(pid) for pid in pids]
+    of their waits, and none waits for a processor."""
+    def waits() -> List[Tuple[int, str]]:
+        return [(waits_of(pid), of_process(pid, "stat").rsplit(")", 1)[-1][1:2]) for pid in pids]
+
+    def all_sleep() -> bool:
+        before = waits()
         time.sleep(1)
-        return before == [waits_of(pid) for pid in pids]
-    until("they sleep", all_slept, 20)
+        return before == waits() and all(state != "R" for _, state in before)
+    until("they sleep", all_sleep, 60)
 
 
 def goes_on(process: "subprocess.Popen[Any]") -> None:
@@ -333,8 +334,3 @@ def built(target: str, for_tests: bool) -> None:
             if status and re.search("libcadical-dev|libmd-dev|libopenmpi-dev", out + err):
                 lacking(f"all of lrup-{target}: {(out + err).splitlines()[0]}")
             assert not status and not re.search(r"warning: .*\[-W", err), out + err
-
-
-# The marks of a file whose tests need both builds. A test may fail twice, since solvers race with
-# each other and with signals.
-FOR_TESTS = [pytest.mark.usefixtures("solve_for_tests"), pytest.mark.flaky(reruns=2)]
