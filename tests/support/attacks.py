@@ -48,13 +48,14 @@ LISTS = ["files\n../mine\n", "files\nmine\n", "files\n/etc/hostname\n", "mine\n"
 CUBES = [b"a 1 0\na -1 0\n", b"a 1 0\n", b"a 0\n", b"p inccnf\n1 0\na 1 0\n"]
 COUNTS, WRONG_COUNTS = ["1", "2", "3", "4"], ["0", "1x", "65", "-1"]     # of engines, or filters
 VALUES: Dict[str, Sequence[object]] = {
-    "engines": (SOLVE.with_name("lrup-engines"),), "expect": (*EXPECTED,),
+    "engines": (SOLVE.with_name("lrup-engines"),), "expect": (*EXPECTED,), "filters": COUNTS,
     "memory": ("1K", "64K", "1M", "20K,100K", "1M,2M", "64M"),
     "mpi": ("env", "exec sh -c 'exit 1'"), "progress": ("json",),
     "save-every": ("0.05", "1", "300"), "seed": (0, 1, 2, 1000000000),
     "share-size": (0, 1, 4, 1000), "time": ("0.5", "3", "0.001", "100")}
 WRONG_VALUES: Dict[str, Sequence[object]] = {
     "engines": ("none", "/", "/bin/true", "./none"), "expect": ("x", "s UNSATISFIABLE", "UNSAT"),
+    "filters": WRONG_COUNTS,
     "memory": ("x", "0", "99G", "2M,1M", "-1"), "mpi": ("x", "kill -9 $$;", "false"),
     "progress": ("x",), "save-every": ("x", "0", "1e9"), "seed": ("x", -1, 1 << 64),
     "share-size": (1001, "x"), "time": ("x", "0", "1e3", "nan", "-1"), "lrupd": ("none", "/"),
@@ -461,7 +462,7 @@ class Attack:
                           "assume": set() if self.is_check else {"solver"},
                           "no-share": {"cubes"}}
         needs = {"replace": {"proofs"}, "save-every": {"proofs", "resume"},
-                 "re-hint": {"core", "lrat"}}
+                 "re-hint": {"core", "lrat"}, "filters": {"solver"}}
         left = [name for name in names if not refused_beside.get(name, set()) & set(names)]
         return [name for name in left if name not in needs or needs[name] & set(left)]
 
