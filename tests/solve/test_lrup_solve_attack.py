@@ -24,7 +24,7 @@ from typing import Dict, Iterator, List, NamedTuple, Set, Tuple
 
 import pytest
 
-from attacks import EXPECTED, SIGNALS, Attack, Records
+from attacks import EXPECTED, OPTIONS, SIGNALS, Attack, Records
 from harness import COUNT, MINUTES, SEED, dimacs, feed, generated, until
 from hostile import FOUND, PROVED, STATUSES, UNDER, UNKNOWN
 from limits import Limited, limited
@@ -33,7 +33,7 @@ from records import recorded
 from solving import is_alive, marked, of_process, solve
 from truths import Formula, satisfies
 
-pytestmark = [pytest.mark.nightly, pytest.mark.usefixtures("solve_for_tests", "in_time")]
+pytestmark = pytest.mark.usefixtures("solve_for_tests")
 FEW = 12        # seeds without --minutes
 SEEDS = range(SEED, SEED + (1 + int(600 * MINUTES) if MINUTES else COUNT or FEW))
 LIMIT = 60      # seconds within which each run has to end
@@ -247,6 +247,14 @@ def assert_status_says_the_same(attack: Attack, ended: Ended, answers: List[str]
         assert status == expected or status == 1 and ended.said and attack.fault
 
 
+def test_each_option_can_be_given(records: Records, tmp_path: Path) -> None:
+    attack = Attack(SEED, tmp_path, records)
+    for name in OPTIONS:
+        attack.option(name)
+
+
+@pytest.mark.nightly
+@pytest.mark.usefixtures("in_time")
 @pytest.mark.parametrize("seed", SEEDS)
 def test_no_wrong_answer(seed: int, records: Records, tmp_path: Path) -> None:
     """What is printed is shown if the test fails: how to repeat it, and what was done."""
