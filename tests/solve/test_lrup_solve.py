@@ -71,16 +71,18 @@ def test_a_satisfiable_formula(options: List[str], tmp_path: Path) -> None:
 @pytest.mark.parametrize("options, is_shared", [([], True), (["--no-share"], False)],
                          ids=["shared", "not shared"])
 def test_clauses_are_shared(options: List[str], is_shared: bool, tmp_path: Path) -> None:
-    """Engines give clauses away, and others take them over and cite them, unless nothing is
-    shared."""
+    """Engines give clauses away, and others take them over, unless nothing is shared: then no line
+    cites another stream, either."""
     answer = solve(["-v", "-j", "3", *options, generated("pigeons 8", tmp_path)],
                    tested={"SLICE": 50})
     want_answer(answer, 20)
     figures = re.findall(r"clauses: ([\d,]+) taken over, .*, ([\d,]+) given away; "
                          r"[\d,]+ lines, (\d+) % of them cite", answer.out)
     assert len(figures) == 3, answer.out
-    for what, numbers in zip(("taken over", "given away", "% cite another"), zip(*figures)):
-        assert any(number != "0" for number in numbers) == is_shared, (what, numbers)
+    taken, given, citing = zip(*figures)
+    assert any(number != "0" for number in taken) == is_shared, f"taken over: {taken}"
+    assert any(number != "0" for number in given) == is_shared, f"given away: {given}"
+    assert is_shared or set(citing) == {"0"}, f"% of lines that cite another stream: {citing}"
 
 
 @pytest.mark.parametrize("words, engines", [("random 200 2", 4), ("pigeons 7", 3), ("order 20", 2)])
