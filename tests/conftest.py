@@ -1,4 +1,6 @@
 """Options, fixtures and hooks of all tests of programs."""
+import difflib
+import itertools
 import os
 import sys
 import tempfile
@@ -13,6 +15,7 @@ sys.path.insert(0, str(SUPPORT))
 pytest.register_assert_rewrite(*(path.stem for path in SUPPORT.glob("*.py")))
 import harness
 
+LONG = 300      # characters of a line that a failure shows
 # pytest cuts what it says about a failed assertion, unless this is set, as in CI.
 os.environ.setdefault("BUILD_NUMBER", "none")
 
@@ -112,6 +115,25 @@ def fail_if_skipped_in_ci(report: Union[pytest.TestReport, pytest.CollectReport]
     if report.skipped and harness.has_packages() and isinstance(report.longrepr, tuple):
         report.outcome = "failed"
         report.longrepr = f"skipped in CI: {report.longrepr[2]}"
+
+
+def pytest_assertrepr_compare(op: str, left: object, right: object) -> Optional[List[str]]:
+    """In what two runs differ: first the status and the first such line of each output, in a line
+    that the summary has, too; then the lines around."""
+    if op != "==" or not isinstance(left, harness.Ran) or not isinstance(right, harness.Ran):
+        return None
+    said: List[str] = []
+    texts: List[str] = []
+    if left.status != right.status:
+        said.append(f"status {left.status}, not {right.status}")
+    for name in ("out", "err"):
+        found, wanted = (getattr(ran, name).splitlines(True) for ran in (left, right))
+        lines = enumerate(itertools.zip_longest(found, wanted, fillvalue=""), 1)
+        for number, (one, other) in [line for line in lines if line[1][0] != line[1][1]][:1]:
+            said.append(f"{name}, line {number}: {one[:LONG]!r}, not {other[:LONG]!r}")
+            around = slice(max(0, number - 5), number + 20)
+            texts += difflib.ndiff(wanted[around], found[around])
+    return ["; ".join(said), *(text.rstrip("\n")[:LONG] for text in texts)]
 
 
 def pytest_report_teststatus(report: pytest.TestReport) -> Optional[Tuple[str, str, str]]:

@@ -360,8 +360,7 @@ def test_standard_input_is_closed(tmp_path: Path) -> None:
 def fails(proof: str, out: Any, work: Path) -> None:
     """The stream can't be written: there is a message of one line, and status 1."""
     done = run([FILTER, written(FOUR, work)], proof, stdout=out)
-    assert done.status == 1
-    assert done.err.count("\n") == 1
+    assert (done.err.count("\n"), done.status) == (1, 1), done.err
     assert done.err.startswith("lrup-exact: ")
 
 

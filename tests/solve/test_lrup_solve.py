@@ -68,6 +68,23 @@ def test_a_satisfiable_formula(options: List[str], tmp_path: Path) -> None:
     want_answer(solve([*options, formula]), 10, formula)
 
 
+@pytest.mark.parametrize("options, is_shared", [([], True), (["--no-share"], False)],
+                         ids=["shared", "not shared"])
+def test_clauses_are_shared(options: List[str], is_shared: bool, tmp_path: Path) -> None:
+    """Engines give clauses away, and others take them over, unless nothing is shared: then no line
+    cites another stream, either."""
+    answer = solve(["-v", "-j", "3", *options, generated("pigeons 8", tmp_path)],
+                   tested={"SLICE": 50})
+    want_answer(answer, 20)
+    figures = re.findall(r"clauses: ([\d,]+) taken over, .*, ([\d,]+) given away; "
+                         r"[\d,]+ lines, (\d+) % of them cite", answer.out)
+    assert len(figures) == 3, answer.out
+    taken, given, citing = zip(*figures)
+    assert any(number != "0" for number in taken) == is_shared, f"taken over: {taken}"
+    assert any(number != "0" for number in given) == is_shared, f"given away: {given}"
+    assert is_shared or set(citing) == {"0"}, f"% of lines that cite another stream: {citing}"
+
+
 @pytest.mark.parametrize("words, engines", [("random 200 2", 4), ("pigeons 7", 3), ("order 20", 2)])
 def test_an_unsatisfiable_formula(words: str, engines: int, tmp_path: Path) -> None:
     want_answer(solve(["-j", engines, generated(words, tmp_path)]), 20)

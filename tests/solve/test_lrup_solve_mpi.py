@@ -149,6 +149,8 @@ def test_nothing_is_shared(tmp_path: Path) -> None:
     assert_solved(2, 1, "pigeons 8", 20, tmp_path, ["--no-share"])
 
 
+# On a busy machine few clauses may come in time, so that 0 % of the lines cite them.
+@pytest.mark.flaky(reruns=2)
 @pytest.mark.long
 @pytest.mark.usefixtures("mpi_for_tests")
 @pytest.mark.parametrize("options, is_shared", [([], True), (["--no-share"], False)],

@@ -281,7 +281,11 @@ def processes_of(mark: str) -> List[int]:
 
 
 def none_left(mark: str) -> None:
-    until("no process of the run is left", lambda: not processes_of(mark))
+    try:
+        until("no process of the run is left", lambda: not processes_of(mark))
+    except AssertionError as found:
+        left = [of_process(pid, "stat")[:40] for pid in processes_of(mark)]
+        raise AssertionError(f"{found}, but {left}") from found
 
 
 def end_all(mark: str) -> None:
