@@ -81,12 +81,7 @@ fn write_answer<O: Sink>(answer: &Answer, out: &mut O) -> Result<(), WriteFault>
 }
 
 /// Writes a comment with a literal in it.
-fn write_comment<O: Sink>(
-    front: &[u8],
-    l: Lit,
-    rest: &[u8],
-    out: &mut O,
-) -> Result<(), WriteFault>
+fn write_comment<O: Sink>(front: &[u8], l: Lit, rest: &[u8], out: &mut O) -> Result<(), WriteFault>
     requires { O.has_failed out.old ≡ false }
     ensures text { WritesText result (O.written out.old) (O.written out.new)
         (literal_text front.now l rest.now) }
