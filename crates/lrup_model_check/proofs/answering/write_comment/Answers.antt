@@ -3,7 +3,8 @@ use Rattle.std.proofs.lemmas.Int.{to_z-of_z}
 use Rattle.std.specs.Fmt.{signed_decimal}
 use Rattle.std.specs.Prelude.{FitsSigned}
 use Rattle.lrup_text.specs.Writing.{space}
-use Rattle.lrup_text.specs.lemmas.WritingLemmas.{breaks_from_empty, breaks_more, breaks_next, breaks_then, puts_next, puts_then, writes_from_empty}
+use Rattle.lrup_text.specs.lemmas.WritingLemmas.{breaks_from_empty, breaks_more, breaks_next, breaks_then}
+use Rattle.lrup_text.specs.lemmas.WritingLemmas.{puts_next, puts_then, writes_from_empty}
 use Rattle.lrup_model_check.proofs.answering.write_comment.Goals as goal
 
 pub returns-in_err-put-clause-text : goal.returns-in_err-put-clause-text
