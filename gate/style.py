@@ -22,7 +22,7 @@ from antt import ROOT, shown
 
 # Names from the toolchain, the system or other programs, or made up by a page.
 FOREIGN = set(("bazel glibc hugetlb mutex_round_the_store my_lemma plm_rsh_agent sha socat "
-               "veth").split())
+               "veth wait_sets_the_signal").split())
 # Words that codespell doesn't know.
 SPELLINGS = ("anothers", "bu", "crate", "grat", "lits", "nd", "somes")
 

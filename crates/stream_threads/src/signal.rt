@@ -5,8 +5,9 @@ ghost use Rattle.std.specs.Prelude.{◌≡◌};
 use std::sync::{OnceLock, OnceToken, Wait};
 
 /// Waits for the start signal. The token that it returns has the signal's value, which never
-/// changes.
-pub fn wait_for_start<'a, W: Wait>(wait: &W, signal: &'a OnceLock<bool>) -> OnceToken<'a, bool>
+/// changes. The call can't set the signal, since a value of an unknown type `T` can't be made. No
+/// contract of `OnceLock` says what sets a lock.
+pub fn wait_for_start<'a, W: Wait, T>(wait: &W, signal: &'a OnceLock<T>) -> OnceToken<'a, T>
     ensures { result.of ≡ signal.now.id }
 {
     // Once `wait` returns, the lock has its value, and `witness` gives a token for it. No contract

@@ -21,7 +21,8 @@ use stream_check::{Gate, RunParams};
 /// Why some stream has no result.
 #[derive(Drop)]
 pub enum ThreadFault<R: Source + Drop> {
-    /// A thread of the stream with this number (from 1) couldn't be started. No reader was read.
+    /// A thread of the stream with this number (from 1) couldn't be started. In the code, no reader
+    /// was read; no contract says so, since the threads that have started keep their readers.
     Spawn(u64),
     /// All threads have ended, but a checking thread found its ring abandoned before a mark came.
     /// These are the results of the streams before the first one with such a ring.

@@ -38,6 +38,25 @@ fn always_want_of_memory(rt: HostRuntime) -> Result<(), Fail> {
     Ok(())
 }
 
+/// Counts the first read of stream 1.
+const FIRST_READ: [Hold; 1] = [([0, 0, 0], [1, 0, 1], 0)];
+
+/// This test would fail if a run read and checked everything, and then dropped the reports and said
+/// that a thread couldn't be started. If one really can't be started, no stream was read.
+#[test]
+fn spawn_after_a_whole_run(rt: HostRuntime) -> Result<(), Fail> {
+    let holds = Holds::new(rt.alloc(), &FIRST_READ)?;
+    let streams: [&'static [&'static str]; 1] = [&[REFUTATION]];
+    let readers = holding_readers(rt.alloc(), &streams, &holds)?;
+    match run_with(&rt, Mode::Threads, defaults(), readers, Open) {
+        Ok(found) => says(&rt, holds.made(), &found, &[REFUTES]),
+        Err(fault) => {
+            same(&rt, (fault, holds.made()), (fault, 0));
+            Err(fault.into())
+        }
+    }
+}
+
 /// Checks the stream's report in both kinds of run. With threads, the stream is read to its end or
 /// to the read that fails.
 fn one_says<T: Machine>(

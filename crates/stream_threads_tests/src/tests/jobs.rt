@@ -64,19 +64,17 @@ fn open_pair<R: Source + Drop, G: Gate + Drop>(
     Ok((reading, Checking { map, job }))
 }
 
-/// Sets the signal, and checks what is received, through the map's desk; `None` if the signal says
-/// to leave.
+/// Waits for the signal, and checks what is received, through the map's desk; `None` if the signal
+/// says to leave.
 fn check<W: Wait, G: Gate + Drop>(
     wait: &W,
     signal: &OnceLock<bool>,
-    go: bool,
     checking: Checking<G>,
 ) -> Option<Checked>
     ensures { IfSome result (λ checked.
         SameConsumer checking.job.receiver.consumer checked.consumer) }
 {
     let Checking { mut map, job } = checking;
-    let _ = signal.set(wait, go);
     let mut desk = map.desk(1);
     check_on_signal(wait, signal, job, &mut desk).ok()
 }
@@ -92,8 +90,8 @@ fn read<W: Wait, R: Source + Drop>(
     read_on_signal(wait, signal, reading).ok()
 }
 
-/// Runs both jobs, each in a thread of its own. Returns the stream's report and its reader; `None`
-/// if the signal says to leave.
+/// Sets the signal, and runs both jobs, each in a thread of its own. Returns the stream's report and
+/// its reader; `None` if the signal says to leave.
 fn run_pair<T: Threads + Wait + Sync, R: Source + Send + Drop, G: Gate + Send + Drop>(
     rt: &T,
     go: bool,
@@ -113,7 +111,10 @@ fn run_pair<T: Threads + Wait + Sync, R: Source + Send + Drop, G: Gate + Send + 
         || -> Option<Checked>
             ensures { IfSome result (λ checked.
                 SameConsumer checking.job.receiver.consumer checked.consumer) }
-        { check(rt, signal, go, checking) },
+        {
+            let _ = signal.set(rt, go);
+            check(rt, signal, checking)
+        },
     );
     let (mut sent, mut checked) = (sent?, checked?);
     jobs_agree(&mut sent, &mut checked);
@@ -356,6 +357,41 @@ fn asked_to_leave(rt: HostRuntime) -> Result<(), Fail> {
     Ok(())
 }
 
+/// Sets the signal to leave, long after the other thread has begun to wait for it. Returns whether
+/// nobody had set it before.
+fn leave_late<T: Wait + Clock>(rt: &T, signal: &OnceLock<bool>) -> bool {
+    pause(rt);
+    signal.set(rt, false).is_ok()
+}
+
+/// Until the signal is set, no job of a stream reads or checks a byte, nor does it set the signal
+/// itself.
+#[test]
+fn job_sets_the_signal(rt: HostRuntime) -> Result<(), Fail> {
+    let counters = Counters::new();
+    let reader = Counted {
+        pieces: Pieces::new(REFUTATION, 12, 0),
+        counters: &counters,
+    };
+    let (reading, checking) = open_pair(rt.alloc(), reader, Open, 2)?;
+    let signal = OnceLock::new();
+    let left = join(
+        &rt,
+        || read(&rt, &signal, reading).is_none(),
+        || leave_late(&rt, &signal),
+    );
+    same(&rt, left, (true, true));
+    same(&rt, counters.reads.load(Ordering::SeqCst), 0);
+    let signal = OnceLock::new();
+    let left = join(
+        &rt,
+        || check(&rt, &signal, checking).is_none(),
+        || leave_late(&rt, &signal),
+    );
+    same(&rt, left, (true, true));
+    Ok(())
+}
+
 /// Delivers each line only after the one before has been published. Before the first few lines it
 /// pauses, so that the checking thread falls asleep.
 #[derive(Drop)]
@@ -511,12 +547,8 @@ fn said_of_one_that_goes<T: Threads + Wait + Clock + Sync>(
     alloc: Global,
 ) -> Result<Option<Report>, Fail> {
     let (reading, checking) = open_pair(alloc, Pieces::new(REFUTATION, 12, 0), Open, 2)?;
-    let signal = OnceLock::new();
-    let (_, checked) = join(
-        rt,
-        || leave(rt, reading),
-        || check(rt, &signal, true, checking),
-    );
+    let signal = OnceLock::from(true);
+    let (_, checked) = join(rt, || leave(rt, reading), || check(rt, &signal, checking));
     let checked = checked.ok_or("told to leave")?;
     Ok(checked.report)
 }
