@@ -657,12 +657,13 @@ def test_faults(program: str, streams: Sequence[str], options: str, said: str,
 
 
 PLACE = "expected {1}, found {0}"
+LIST_ENDS = "LF after the 0 that ends the list"
 # The line, the fault, the explanation, the line's bytes with ^ before the deciding one, and the
 # place of that byte.
 FORMS = [
     ("5  2 0 1 2 0\n", "spelling", PLACE.format("a space", "a literal, 0, d or i"),
      "5 ^ 2 0 1 2 0", 3),
-    ("5 2 0 1 2 0\r\n", "spelling", PLACE.format("a carriage return", "LF, the line's end"),
+    ("5 2 0 1 2 0\r\n", "spelling", PLACE.format("a carriage return", LIST_ENDS),
      "5 2 0 1 2 0^\\r", 12),
     ("\n", "spelling", PLACE.format("the line's end", "an identity"), "^\\n", 1),
     ("c x\n", "spelling", PLACE.format("'c'", "an identity"), "^c x", 1),
@@ -675,9 +676,9 @@ FORMS = [
      PLACE.format("the line's end", "a space, and then the hints and another 0"), "2 0^\\n", 4),
     ("5 2 0 1 2\n", "spelling", PLACE.format("the line's end", "a digit or a space"),
      "5 2 0 1 2^\\n", 10),
-    ("5 2 0 1 2 0 \n", "spelling", PLACE.format("a space", "LF, the line's end"),
-     "5 2 0 1 2 0^ ", 12),
-    ("5 2 0 1 02 0\n", "spelling", PLACE.format("'2'", "LF, the line's end"), "5 2 0 1 0^2 0", 10),
+    ("5 2 0 1 2 0 \n", "spelling", PLACE.format("a space", LIST_ENDS), "5 2 0 1 2 0^ ", 12),
+    ("5 2 0 0 1 0\n", "spelling", PLACE.format("a space", LIST_ENDS), "5 2 0 0^ 1 0", 8),
+    ("5 2 0 1 02 0\n", "spelling", PLACE.format("'2'", LIST_ENDS), "5 2 0 1 0^2 0", 10),
     ("5 d -1 0\n", "spelling", PLACE.format("'-'", "an identity or 0"), "5 d ^-1 0", 5),
     ("5 d1 0\n", "spelling", PLACE.format("'1'", "a space"), "5 d^1 0", 4),
     ("2 i 1 d 0\n", "spelling", PLACE.format("'d'", "a literal or 0"), "2 i 1 ^d 0", 7),

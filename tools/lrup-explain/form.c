@@ -63,7 +63,7 @@ static const Rule rules[] = {
     [STATED_SIGN] = { "a digit from 1 to 9", .digit = STATED_DIGITS },
     [STATED_DIGITS] = { "a digit or a space", .digit = STATED_DIGITS, .zero = STATED_DIGITS,
                         .space = STATED },
-    [END] = { "LF, the line's end", .end = WHOLE },
+    [END] = { "LF after the 0 that ends the list", .end = WHOLE },
     // another process wrote LF into the line before it was copied
     [WHOLE] = { .wanted = "nothing more" }
 };
