@@ -320,13 +320,15 @@ class Attack:
             ending, packer = self.numbers.choice(PACKERS)
             packed = subprocess.run([packer, "-c"], input=data, stdout=subprocess.PIPE)
             return self.spelled(self.new_file(packed.stdout, ending))
-        self.is_refused = True
+        misnamed: Callable[[], str] = lambda: self.spelled(self.new_file(data, ".gz"))
         name: Callable[[], str] = self.numbers.choice((
             lambda: self.spelled(self.new_path(), False), lambda: self.of_folder(self.home),
             lambda: "/dev/null", lambda: "/proc/self/mem",
-            lambda: self.spelled(self.new_file(data), False) + "/",
-            lambda: self.spelled(self.new_file(data, ".gz"))))
-        return name()
+            lambda: self.spelled(self.new_file(data), False) + "/", misnamed))
+        word = name()
+        # By another name, which doesn't say that it is packed, the file can be read.
+        self.is_refused |= name is not misnamed or word.endswith(".gz")
+        return word
 
     def other_word(self, data: bytes) -> str:
         """The same for a file on which no answer depends."""
