@@ -8,7 +8,7 @@
 #include "line_limits.h"
 #include "write.h"
 
-enum { DEAD_WORDS = 1 << 15 };       // fewer aren't given back
+enum { DEAD_WORDS = 1 << 15 };  // fewer aren't given back
 // filter_check checks after each step what is small, and visits this many words for each step of
 // what is larger.
 enum { SMALL = 1 << 11, WORDS_OF_A_STEP = 1 << 8 };
