@@ -83,8 +83,11 @@ def want_linear(text: str, formula: Path, proof_lines: int, steps: int) -> None:
     assert longest_line(text) <= MOST
 
 
+text_of_formula = functools.lru_cache(maxsize=None)(easy.dimacs)
+
+
 def make(work: Path, kind: str, *numbers: int, backwards: bool = False) -> Path:
-    return written(easy.dimacs(kind, *numbers, backwards=backwards), work)
+    return written(text_of_formula(kind, *numbers, backwards=backwards), work)
 
 
 @pytest.mark.parametrize("form", ["drat", "lrat"])

@@ -9,6 +9,7 @@ the LRAT checker does; if the formula is satisfiable, neither. Records of lrup-s
 CaDiCaL's library is installed. While streams are rewritten and truncated, all outputs or none are
 written. lrup-trim is built for tests, with -fsanitize=address,undefined if the compiler supports
 it."""
+import functools
 import hashlib
 import mmap
 import os
@@ -17,6 +18,7 @@ import re
 import shlex
 import signal
 import sys
+import tempfile
 from pathlib import Path
 from typing import Callable, Dict, List, NamedTuple, Optional, Sequence, Tuple
 
@@ -340,14 +342,21 @@ BASES = [("four-clause.cnf", ["four-clause.lrup"], 0), ("pigeonhole.cnf", ["pige
          ("two-groups.cnf", [f"two-groups.{number}" for number in range(1, 5)], 2)]
 
 
+@functools.lru_cache(maxsize=None)
+def recorded(number: int) -> Dict[str, str]:
+    name, streams, rounds = BASES[number]
+    with tempfile.TemporaryDirectory() as work:
+        found, = proof_in_rounds(example(name), list(map(example, streams)), max(rounds, 1),
+                                 Path(work))
+        return {path.name: path.read_text() for path in sorted(found.iterdir())
+                if rounds or "stream" in path.name}
+
+
 def base(number: int, folder: Path) -> Garbled:
-    name, streams, rounds = BASES[number % len(BASES)]
-    found, = proof_in_rounds(example(name), list(map(example, streams)), max(rounds, 1), folder)
-    files = {path.name: path.read_text() for path in sorted(found.iterdir()) if rounds
-             or "stream" in path.name}
-    for path in found.iterdir():
-        path.unlink()
-    return Garbled(example(name), files)
+    """A record that the test may change; its folder is empty."""
+    (folder / "rounds").mkdir()
+    place = number % len(BASES)
+    return Garbled(example(BASES[place][0]), dict(recorded(place)))
 
 
 FAULTY_LINE = (r"spelling|too long|truncated|rat hint|identity|"

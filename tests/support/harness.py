@@ -257,11 +257,16 @@ def feed(path: Path, pieces: Pieces) -> threading.Thread:
     return thread
 
 
-def generated(words: str, folder: Path, name: str = "formula.cnf") -> Path:
-    """A formula from the generator."""
+@functools.lru_cache(maxsize=None)
+def text_generated(words: str) -> str:
     done = run([sys.executable, GENERATOR, *words.split()])
     assert done.status == 0, done.err
-    return written(done.out, folder, name)
+    return done.out
+
+
+def generated(words: str, folder: Path, name: str = "formula.cnf") -> Path:
+    """A formula from the generator."""
+    return written(text_generated(words), folder, name)
 
 
 def dimacs(variables: int, clauses: Sequence[Sequence[int]]) -> str:

@@ -8,8 +8,10 @@
 #include "line_limits.h"
 #include "write.h"
 
-enum { DEAD_WORDS = 1 << 15 };       // fewer aren't given back
-enum { WORDS_OF_A_STEP = 1 << 11 };  // words that filter_check may visit for each step
+enum { DEAD_WORDS = 1 << 15 };  // fewer aren't given back
+// filter_check checks after each step what is small, and visits this many words for each step of
+// what is larger.
+enum { SMALL = 1 << 11, WORDS_OF_A_STEP = 1 << 8 };
 
 // A tautology is never unit or a conflict.
 static void make_known(Filter *filter, ClauseRef ref) {
@@ -626,9 +628,10 @@ static void identities_check(const Filter *filter) {
 
 void filter_check(const Filter *filter) {
     static size_t taken;  // words: WORDS_OF_A_STEP for each step since the last check
-    if ((taken += WORDS_OF_A_STEP) < filter->clauses.used + (size_t)filter->formula.variables ||
-        filter->refuted)
-        return;
+    size_t words = filter->clauses.used + (size_t)filter->formula.variables;
+    if (words < filter->clauses.near.length) words = filter->clauses.near.length;
+    taken += WORDS_OF_A_STEP;
+    if ((words > SMALL && taken < words) || filter->refuted) return;
     taken = 0;
     assert(filter->literals.length == 0 && filter->lemmas.length == 0 && filter->left.length == 0 &&
            !filter->busy);
