@@ -168,6 +168,7 @@ def run_of(attack: Attack) -> Ended:
             if not may_leave(attack, signals):
                 until("all processes end", lambda: has_none_left(group), SOON)
         finally:
+            print(f"signals {signals}, processes at the end {running(group)}")
             front.kill()
     for file in (stdin, *attack.opened):
         os.close(file)

@@ -278,6 +278,22 @@ def test_signals_during_a_save_that_hangs(tmp_path: Path) -> None:
     assert seconds < BOUND - 1
 
 
+# The front is killed before it starts anything else.
+
+
+def test_an_unpacker_ends_with_the_front(monkeypatch: pytest.MonkeyPatch, tmp_path: Path) -> None:
+    """The program that unpacks the formula hangs, so a closed pipe doesn't end it."""
+    mark, begun = marked(tmp_path), tmp_path / "begun"
+    unpacker = written(f"#!/bin/sh\ntouch {begun}\nexec sleep 1000\n", tmp_path, "zstd")
+    unpacker.chmod(0o755)
+    monkeypatch.setenv("PATH", str(tmp_path), prepend=":")
+    with started(command([written("", tmp_path, "formula.cnf.zst")]),
+                 stdout=subprocess.DEVNULL, stderr=subprocess.DEVNULL) as running:
+        until("it unpacks", begun.exists)
+        running.kill()
+    none_left(mark)
+
+
 # Programs in lrupd's place.
 
 

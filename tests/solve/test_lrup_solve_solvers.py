@@ -389,13 +389,20 @@ def test_a_group_is_signalled_in_time(tmp_path: Path) -> None:
 @pytest.mark.parametrize("whom", ["first", "engine 1", "cadical"])
 def test_killed(number: signal.Signals, whom: str, tmp_path: Path) -> None:
     """The first process or an engine's process is killed: no process of the command is left. The
-    formula is too hard to be solved meanwhile."""
+    formula is too hard to be solved meanwhile, and the filter has written lines: a solver that ends
+    before that couldn't run."""
     mark, command = marked(tmp_path), "sleep 1000 & " + CADICAL
     words = [SOLVE, "--lrupd", PROGRAM, *by([command]), given("pigeons 11", tmp_path)]
     with started(words, stdout=subprocess.PIPE, text=True) as running:
-        until("the solver is there", lambda: "cadical" in [of_process(found, "comm").strip()
-                                                           for found in processes_of(mark)])
-        at_work = {of_process(found, "comm").strip(): found for found in processes_of(mark)}
+        at_work: Dict[str, int] = {}
+
+        def has_lines() -> bool:
+            at_work.update({of_process(found, "comm").strip(): found
+                            for found in processes_of(mark)})
+            written_by = of_process(at_work.get("filter 1", 0), "io")
+            return "cadical" in at_work and re.search(r"^wchar: \d{4}", written_by, re.M) is not None
+
+        until("the filter has written lines", has_lines)
         os.kill(running.pid if whom == "first" else at_work[whom], number)
         out = running.communicate(timeout=LIMIT)[0]
         none_left(mark)

@@ -298,9 +298,11 @@ static int unpacked(int file, const char *path, const char *program) {
     if (found == NULL) errx(1, "%s: no %s on the PATH", shown(path), program);
     if (pipe2(ends, O_CLOEXEC) != 0) err(1, "cannot make a pipe");
     const char *const words[] = { program, "-dcq", NULL };
+    pid_t parent = getpid();
     pid_t child = fork();
     if (child < 0) err(1, "cannot start %s", program);
     if (child == 0) {
+        if (prctl(PR_SET_PDEATHSIG, SIGKILL) != 0 || getppid() != parent) _exit(127);
         signal(SIGPIPE, SIG_DFL);
         if (dup2(file, 0) == 0 && dup2(ends[1], 1) == 1) execv(found, (char **)words);
         _exit(127);
