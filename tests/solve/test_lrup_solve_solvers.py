@@ -400,7 +400,7 @@ def test_killed(number: signal.Signals, whom: str, tmp_path: Path) -> None:
             at_work.update({of_process(found, "comm").strip(): found
                             for found in processes_of(mark)})
             written_by = of_process(at_work.get("filter 1", 0), "io")
-            return "cadical" in at_work and re.search(r"^wchar: \d{4}", written_by, re.M) is not None
+            return "cadical" in at_work and bool(re.search(r"^wchar: \d{4}", written_by, re.M))
 
         until("the filter has written lines", has_lines)
         os.kill(running.pid if whom == "first" else at_work[whom], number)
