@@ -161,7 +161,8 @@ def test_only_large_streams_are_packed(kept: Path, tmp_path: Path) -> None:
     assert small == []
     saved = way_on(answer, kept, formula)[0]
     large = [name for name in plain(kept) if (kept / name).stat().st_size >= 1 << 20]
-    assert [name for name in large if round_of(name) < saved] == []
+    # A run that ends waits for a save that is under way, but not for the packer.
+    assert [name for name in large if round_of(name) < saved - 1] == []
 
 
 def tree(pid: int) -> Dict[str, int]:
