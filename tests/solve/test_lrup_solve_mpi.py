@@ -27,8 +27,8 @@ from records import recorded, saved_rounds, way_on, whole
 from solving import (Answer, built, check_again, children_of, command, in_environment, is_alive,
                      marked, of_process, want_answer)
 
-# Now and then a process under mpirun ends by a segmentation fault after the answer, which was
-# right. The cause isn't known.
+# Now and then mpirun itself (Open MPI 4.1.4) ends by a segmentation fault after the answer: it
+# calls code that isn't mapped any more. It says so on standard error, where tests want nothing.
 pytestmark = [pytest.mark.usefixtures("mpi"), pytest.mark.flaky(reruns=2)]
 # Rows that don't grow, and frequent exchanges.
 SMALL = {"SAME_WORDS": 1, "SLICE": 100, "EXCHANGING": 50}

@@ -18,6 +18,7 @@ use Rattle.stream_check.specs.declared.report.Ending.TheVariants as endings
 use Rattle.stream_check.specs.declared.report.Report.{Report}
 use Rattle.stream_check.specs.StreamParams.{StreamParams}
 use Rattle.stream_check.specs.Verdicts.{Good, Bad}
+use Rattle.test_support.specs.Worked.{first, second, third, fourth, unit}
 use Rattle.judge.specs.Judge.{looked_up, LineOutcome, Judged, OutOfMemory, judged_line, LineState, first_state, next_state, Refusal, judged}
 
 abbrev pub row_params : StreamParams
@@ -27,22 +28,6 @@ row_params = record {
   stream = 1;
   tries = 2;
 }
-
--- the clauses 1 to 4, and the clause `2`
-abbrev pub first : Clause
-first = pos 1 ∷ pos 2 ∷ []
-
-abbrev pub second : Clause
-second = negsuc 0 ∷ pos 2 ∷ []
-
-abbrev pub third : Clause
-third = pos 1 ∷ negsuc 1 ∷ []
-
-abbrev pub fourth : Clause
-fourth = negsuc 0 ∷ negsuc 1 ∷ []
-
-abbrev pub unit : Clause
-unit = pos 2 ∷ []
 
 -- `5 2 0 1 2 0`
 abbrev pub adds_unit : StreamLine
