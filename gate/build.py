@@ -6,17 +6,16 @@
 rt allows one run at a time in a crate and those below it, and nearly all crates use lrup_model. So
 each library is proved in a lane: a folder with copies of its sources and of the libraries below it;
 meanwhile the library's out/ is there, too. Crates with the longest path to a program, by SECONDS,
-come first, and the others get a smaller share of the cores. After an interruption, the next build
-keeps what was proved. At the end `rt run` proves and runs each program. A copy of lrupd is put at
-the path LRUPD, and one of lrup-model beside it. rt recognizes proved libraries by checksums, and
-proves all others again, so no proof depends on this script. Beside each copy a file says from which
-sources and by which rt it was proved and built: as long as these stay the same, there is nothing to
-do."""
+come first, and the others get a smaller share of the cores. `rt run` proves and runs each program
+where its sources are. After an interruption, the next build keeps what was proved. At the end a
+copy of lrupd is put at the path LRUPD, and one of lrup-model beside it. rt recognizes proved
+libraries by checksums, and proves all others again, so no proof depends on this script. Beside each
+copy a file says from which sources and by which rt it was proved and built: as long as these stay
+the same, there is nothing to do."""
 import fcntl
 import hashlib
 import os
 import re
-import resource
 import shutil
 import signal
 import subprocess
@@ -24,7 +23,7 @@ import sys
 import tempfile
 import time
 from pathlib import Path
-from typing import List, NamedTuple, Optional, Set, Tuple
+from typing import List, NamedTuple, Optional, Sequence, Set, Tuple
 
 ROOT = Path(__file__).resolve().parent.parent
 CRATES = ROOT / "crates"
@@ -51,7 +50,6 @@ PROGRAMS = [
                                ROOT / "examples/four-clause.lrup"], 0),
     Program("lrup-model", "lrup_model_check", [CRATES / "lrup_model_check/data/three.cnf",
                                                CRATES / "lrup_model_check/data/three.model"], 10)]
-LOG = CRATES / "lrupd" / "out" / "build.log"
 # The lanes aren't next to the sources, where rt ci would refuse copies left by a killed build.
 LANES = (ROOT / ".git" if (ROOT / ".git").is_dir() else ROOT / "out") / "lanes"
 PARTS = ("src", "specs", "proofs")
@@ -76,7 +74,8 @@ def below(name: str) -> Set[str]:
 
 
 LIBRARIES = {crate for program in PROGRAMS for crate in below(program.crate)}
-ALL = {*LIBRARIES, *(program.crate for program in PROGRAMS)}
+OF_CRATE = {program.crate: program for program in PROGRAMS}
+ALL = {*LIBRARIES, *OF_CRATE}
 
 
 def seconds(*names: str) -> int:
@@ -121,41 +120,20 @@ def locked(folder: Path) -> int:
     return held
 
 
-class Lane:
-    """A library that is being proved."""
+class Proof:
+    """A crate that is being proved. A program is proved where its sources are, and then runs."""
 
     def __init__(self, name: str) -> None:
         self.name, self.began, self.used = name, time.monotonic(), 0
         self.run: Optional[subprocess.Popen[bytes]] = None
-        self.home, self.top = CRATES / name, LANES / name
-        self.here = self.top / "crates" / name
-        self.lock = locked(self.home)
         self.said = tempfile.TemporaryFile("w+", errors="replace")
 
     def start(self, *words: str) -> None:
-        self.go_home()  # takes back what a killed build left in the lane
-        names = {self.name, *below(self.name)}
-        for crate in names:
-            to = self.top / "crates" / crate
-            for part in PARTS:
-                if (CRATES / crate / part).is_dir():
-                    shutil.copytree(CRATES / crate / part, to / part)
-            if crate != self.name and (CRATES / crate / "out/rlib").is_dir():
-                shutil.copytree(CRATES / crate / "out/rlib", to / "out/rlib", copy_function=link)
-        (self.top / "crates.txt").write_text("".join(LINES[crate] + "\n" for crate in names))
-        shutil.copy(ROOT / "HANDLES", self.top)
-        if (self.home / "out").is_dir():
-            os.rename(self.home / "out", self.here / "out")
-        self.run = subprocess.Popen(words, cwd=self.here, stdin=subprocess.DEVNULL,
-                                    stdout=self.said, stderr=subprocess.STDOUT)
+        self.start_in(CRATES / self.name, words)
 
-    def go_home(self) -> None:
-        if self.here.is_dir():
-            lock = locked(self.here)
-            if (self.here / "out").is_dir() and not (self.home / "out").exists():
-                os.rename(self.here / "out", self.home / "out")
-            os.close(lock)
-        shutil.rmtree(self.top, ignore_errors=True)
+    def start_in(self, folder: Path, words: Sequence[str]) -> None:
+        self.run = subprocess.Popen(words, cwd=folder, stdin=subprocess.DEVNULL,
+                                    stdout=self.said, stderr=subprocess.STDOUT)
 
     def has_ended(self) -> bool:
         """Whether the started run has ended. If so, `used` has its processor seconds."""
@@ -172,14 +150,51 @@ class Lane:
         if self.run and not self.has_ended():
             self.run.terminate()
             self.run.wait()
-        status = self.run.returncode if self.run else 1
+        self.said.seek(0)
+        return self.run.returncode if self.run else 1, self.said.read()
+
+
+class Lane(Proof):
+    """A library that is being proved in a lane."""
+
+    def __init__(self, name: str) -> None:
+        super().__init__(name)
+        self.home, self.top = CRATES / name, LANES / name
+        self.here = self.top / "crates" / name
+        self.lock = locked(self.home)
+
+    def start(self, *words: str) -> None:
+        self.go_home()  # takes back what a killed build left in the lane
+        names = {self.name, *below(self.name)}
+        for crate in names:
+            to = self.top / "crates" / crate
+            for part in PARTS:
+                if (CRATES / crate / part).is_dir():
+                    shutil.copytree(CRATES / crate / part, to / part)
+            if crate != self.name and (CRATES / crate / "out/rlib").is_dir():
+                shutil.copytree(CRATES / crate / "out/rlib", to / "out/rlib", copy_function=link)
+        (self.top / "crates.txt").write_text("".join(LINES[crate] + "\n" for crate in names))
+        shutil.copy(ROOT / "HANDLES", self.top)
+        if (self.home / "out").is_dir():
+            os.rename(self.home / "out", self.here / "out")
+        self.start_in(self.here, words)
+
+    def go_home(self) -> None:
+        if self.here.is_dir():
+            lock = locked(self.here)
+            if (self.here / "out").is_dir() and not (self.home / "out").exists():
+                os.rename(self.here / "out", self.home / "out")
+            os.close(lock)
+        shutil.rmtree(self.top, ignore_errors=True)
+
+    def end(self) -> Tuple[int, str]:
+        status, said = super().end()
         self.go_home()
         stamp = self.home / "out/rlib/stamp"
         if status == 0 and stamp.is_file():
             os.utime(stamp)
         os.close(self.lock)
-        self.said.seek(0)
-        return status, self.said.read()
+        return status, said
 
 
 def left(done: Set[str]) -> int:
@@ -195,13 +210,24 @@ def print_proved(done: Set[str], name: str, began: float, used: int) -> None:
     print(f"{len(done)} of {len(ALL)}: {name}, {clock}, processor {used} s{rest}", flush=True)
 
 
-def prove_libraries(rt: str, done: Set[str]) -> Tuple[int, str]:
-    """Proves the libraries that aren't done. Returns the status, and the output of the library that
-    failed, if any."""
-    todo = sorted(LIBRARIES - done, key=way, reverse=True)
-    if todo:
+def start(rt: str, name: str, jobs: int, nice: int) -> Proof:
+    """Starts to prove the crate. More than one job don't make a program faster."""
+    proof = Lane(name) if name in LIBRARIES else Proof(name)
+    words = (["lib", "--jobs", str(jobs)] if name in LIBRARIES else
+             ["run", "--jobs", "1", "--", *map(str, OF_CRATE[name].files)])
+    proof.start("nice", "-n", str(nice), rt, *words)
+    return proof
+
+
+def prove(rt: str, done: Set[str]) -> Tuple[int, str]:
+    """Proves the crates that aren't done, of which the programs then run. Prints a line for each,
+    but for a program that was proved before, as all libraries were. Returns whether one failed, and
+    its output."""
+    todo = sorted(ALL - done, key=way, reverse=True)
+    were_libraries = not LIBRARIES <= done
+    if were_libraries:
         print(f"{len(done)} of {len(ALL)} were proved before; {left(done)} % left", flush=True)
-    running: List[Lane] = []
+    running: List[Proof] = []
     most = lanes_at_once()
     try:
         while todo or running:
@@ -209,49 +235,28 @@ def prove_libraries(rt: str, done: Set[str]) -> Tuple[int, str]:
             for name in ready[:most - len(running)]:
                 todo.remove(name)
                 jobs = JOBS if running else CORES
-                running.append(Lane(name))
-                spare = max(map(way, [name, *todo, *(lane.name for lane in running)])) - way(name)
-                running[-1].start("nice", "-n", str(min(19, spare // SECONDS_EACH)), rt, "lib",
-                                  "--jobs", str(jobs))
+                names = [name, *todo, *(proof.name for proof in running)]
+                spare = max(map(way, names)) - way(name)
+                running.append(start(rt, name, jobs, min(19, spare // SECONDS_EACH)))
             time.sleep(0.1)
-            for lane in [lane for lane in running if lane.has_ended()]:
-                running.remove(lane)
-                status, said = lane.end()
-                if status:
-                    return status, said
-                done.add(lane.name)
-                print_proved(done, lane.name, lane.began, lane.used)
+            for proof in [proof for proof in running if proof.has_ended()]:
+                running.remove(proof)
+                status, said = proof.end()
+                program = OF_CRATE.get(proof.name)
+                if status != (program.status if program else 0):
+                    return 1, said
+                done.add(proof.name)
+                if were_libraries or re.search(rf"^crate {proof.name}:", said, re.M):
+                    print_proved(done, proof.name, proof.began, proof.used)
     except BaseException:
         # A second signal would leave a library's out/ in the lane.
         for number in (signal.SIGINT, signal.SIGTERM):
             signal.signal(number, signal.SIG_IGN)
         raise
     finally:
-        for lane in running:
-            lane.end()
+        for proof in running:
+            proof.end()
     return 0, ""
-
-
-def processor_seconds() -> int:
-    """The processor seconds of all runs that have ended."""
-    usage = resource.getrusage(resource.RUSAGE_CHILDREN)
-    return round(usage.ru_utime + usage.ru_stime)
-
-
-def prove_program(rt: str, program: Program, done: Set[str],
-                  were_libraries: bool) -> Tuple[bool, str]:
-    """Proves and runs the program. Prints that it is proved, unless it was proved before and no
-    library's line was printed. Returns whether it failed, and the output."""
-    began, before, crate = time.monotonic(), processor_seconds(), program.crate
-    words = [rt, "run", "--jobs", "1", "--", *map(str, program.files)]  # more don't make it faster
-    ran = subprocess.run(words, cwd=CRATES / crate, stdout=subprocess.PIPE,
-                         stderr=subprocess.STDOUT, errors="replace")
-    has_failed = ran.returncode != program.status
-    if not has_failed:
-        done.add(crate)
-    if not has_failed and (were_libraries or re.search(rf"^crate {crate}:", ran.stdout, re.M)):
-        print_proved(done, crate, began, processor_seconds() - before)
-    return has_failed, ran.stdout
 
 
 def sum_of_sources(rt: str) -> str:
@@ -298,14 +303,7 @@ def main() -> None:
     sources = sum_of_sources(rt)
     if all(is_proved(sources, program.place(lrupd)) for program in PROGRAMS):
         return
-    young = {name for name in LIBRARIES if is_young(name)}
-    done = set(young)
-    failed, said = prove_libraries(rt, done)
-    for program in PROGRAMS:
-        if not failed:
-            failed, said = prove_program(rt, program, done, young != LIBRARIES)
-    LOG.parent.mkdir(exist_ok=True)
-    LOG.write_text(said)
+    failed, said = prove(rt, {name for name in LIBRARIES if is_young(name)})
     if failed:
         sys.exit(re.sub(r".*: proved\n", "", said))
     put_programs(rt, sources, lrupd)
