@@ -285,6 +285,25 @@ def test_saved_at_the_end(number: Optional[signal.Signals], tested: Mapping[str,
         words = ["--resume"]
 
 
+def test_saved_while_lrupd_reads(tmp_path: Path) -> None:
+    """A signal comes while lrupd still reads the saved rounds: the current one is saved, too."""
+    marked(tmp_path)
+    formula, kept = generated("pigeons 10", tmp_path), tmp_path / "kept"
+    recorded(["-j", "2", formula], kept, 2, SMALL)
+    before = saved_rounds(kept)
+    for path in kept.glob(f"round-{before}.stream-*"):  # what the killed run didn't save
+        path.unlink()
+    words = ["-j", "2", "--lrupd", before_lrupd("sleep 2", tmp_path), "--resume", kept, formula]
+    with started(command(words, {}), env=in_environment({}), text=True, stdout=subprocess.PIPE,
+                 stderr=subprocess.PIPE) as running:
+        until("there is something to save", lambda: any(
+            path.stat().st_size > 0 for path in kept.glob(f"round-{before}.stream-*")))
+        running.send_signal(signal.SIGINT)
+        answer = Answer(Ran(*running.communicate(timeout=SOON), running.returncode))
+    assert way_on(answer, kept, formula) == (before, False), answer.out
+    assert saved_rounds(kept) - 1 == before, answer.out
+
+
 def test_a_second_signal(tmp_path: Path) -> None:
     """While lrupd is stopped, nothing can be saved: the second signal ends the run at once."""
     marked(tmp_path)

@@ -364,15 +364,15 @@ std::string Rounds::advance() {
 
 bool Rounds::has_lines() const { return teams.all(&EngineStatus::lines) > lines_before; }
 
-// Whether there are new lines that can be saved.
+// Whether there are new lines that can be saved, once lrupd has read what was saved before.
 bool Rounds::has_more() const {
-    bool is_wanted =
-        inputs.options.may_be_resumed() && teams.lost.empty() && (checked == 0 || !is_behind());
-    return is_wanted && has_lines();
+    return inputs.options.may_be_resumed() && teams.lost.empty() && has_lines();
 }
 
 double Rounds::next_saving() const {
-    return state == OPEN && has_more() ? begun + inputs.options.save_every : INFINITY;
+    bool reads_saved = checked > 0 && is_behind();
+    return state == OPEN && !reads_saved && has_more() ? begun + inputs.options.save_every
+                                                       : INFINITY;
 }
 
 // Stops the engines, which leaves the cores to the filters and lrupd.
