@@ -96,6 +96,9 @@ STEPS = (
     Step("properties", 90, [], """
         make rows TESTS=program_reports MORE=--count=20000 &&
         make rows TESTS=lrup_solve_steps MORE='-m nightly'"""),
+    Step("xdist", 60, [], """
+        pytest-3 -n auto --dist load --max-worker-restart=0 tests \\
+            -m 'not long and not nightly and not of_crates'"""),
     Step("mpi", 60, ["mpicxx"], "make rows TESTS=lrup_solve_mpi MORE='-m long'"),
     Step("clang", 90, ["clang++"], f"""
         {CLANG} tools && {{ ! command -v mpicxx || {CLANG} solve-mpi; }} && {CLANG} rows \\

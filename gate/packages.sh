@@ -4,7 +4,7 @@
 # and the tests that need a missing package are skipped. In CI, where these tests would fail, so does
 # this script. Packages that are already installed aren't changed. pytest runs the tests of programs;
 # clang's sanitizers are in a separate package.
-packages='bzip2 cadical clang clang-format codespell cryptominisat dpkg-dev libcadical-dev libclang-rt-dev libmd-dev libopenmpi-dev minisat mypy openmpi-bin picosat python3-hypothesis python3-pytest python3-pytest-rerunfailures python3-pytest-timeout python3-z3 strace valgrind xz-utils yosys z3 zstd'
+packages='bzip2 cadical clang clang-format codespell cryptominisat dpkg-dev libcadical-dev libclang-rt-dev libmd-dev libopenmpi-dev minisat mypy openmpi-bin picosat python3-hypothesis python3-pytest python3-pytest-rerunfailures python3-pytest-timeout python3-pytest-xdist python3-z3 strace valgrind xz-utils yosys z3 zstd'
 missing=
 for package in $packages; do
     dpkg-query -W -f '${db:Status-Status}' "$package" 2> /dev/null | grep -qx installed || missing="$missing $package"
