@@ -11,6 +11,7 @@
 //     r engine position              it won't take over what ENGINE gave away before POSITION
 //     x                              the next addition may be given away; twice: it refutes a cube
 #include "errors.h"
+#include "hash.h"
 #include "readers.h"
 #include "line_limits.h"
 
@@ -67,13 +68,70 @@ static void decode(Numbers *list, size_t start, size_t end, Coding coding) {
     }
 }
 
-static void drat_step(Filter *filter, Input *input, int letter, Numbers *list) {
+// Reads literals up to the next 0, and marks them. Returns 0, or the first number that isn't a
+// literal of the formula's variables. Nearly all of a proof's bytes are read here, so the loop keeps
+// what it needs in variables of its own.
+static uint64_t read_literals(Filter *filter, Input *input, bool *tautology) {
+    const size_t most = 2 * (size_t)filter->formula.variables;
+    RESERVE(&filter->literals, most);
+    const unsigned char *next = input->bytes + input->at, *end = input->bytes + input->length;
+    unsigned char *marks = filter->hints.marks;
+    Literal *literals = filter->literals.items;
+    uint64_t found, hash = 0, repeated = 0;
+    *tautology = false;
+    for (;;) {
+        bool has_two = next + 1 < end;
+        if (has_two && next[0] < 128) {
+            found = *next++;
+        } else if (has_two && next[1] < 128) {
+            found = (next[0] & 127u) | (uint64_t)next[1] << 7;
+            next += 2;
+        } else {
+            input->at = (size_t)(next - input->bytes);
+            found = number_of_bytes(input);
+            next = input->bytes + input->at;
+            end = input->bytes + input->length;
+        }
+        size_t literal = found - 2;
+        if (literal >= most) break;  // 0 and 1, too, since the difference isn't negative
+        if ((marks[literal] | marks[literal ^ 1]) != OPEN) {
+            if (++repeated > MOST_NUMBERS) stop("a step of more than %d numbers", MOST_NUMBERS);
+            if (marks[literal] != OPEN) continue;
+            *tautology = true;
+        }
+        marks[literal] = TOUCHED;
+        hash += hash_literal(literal);
+        *literals++ = (Literal)literal;
+    }
+    filter->literals.length = (size_t)(literals - filter->literals.items);
+    filter->hash = hash;
+    input->at = (size_t)(next - input->bytes);
+    return found;
+}
+
+// A step with a number that isn't a literal of the formula's variables: the filter stops, or no
+// clause is deleted.
+static void odd_step(Filter *filter, Input *input, int letter, Numbers *list) {
+    filter_unmark(filter);
     numbers(input, list);
     decode(list, 0, list->length, DOUBLED);
     if (letter == 'd')
         filter_delete_literals(filter, list->items, list->length);
     else
         filter_add(filter, &(Addition){ .literals = list->items, .length = list->length });
+}
+
+static void drat_step(Filter *filter, Input *input, int letter, Numbers *list) {
+    bool tautology;
+    uint64_t last = read_literals(filter, input, &tautology);
+    if (last != 0) {
+        PUSH(list, (int64_t)last);
+        odd_step(filter, input, letter, list);
+    } else if (letter == 'd') {
+        filter_delete_marked(filter);
+    } else {
+        filter_add_marked(filter, tautology);
+    }
 }
 
 static void sharing_step(Filter *filter, Input *input, int letter, Numbers *list) {

@@ -4,6 +4,7 @@
 
 #include "errors.h"
 #include "filter.h"
+#include "hash.h"
 #include "lemmas.h"
 #include "line_limits.h"
 #include "write.h"
@@ -14,10 +15,10 @@ enum { DEAD_WORDS = 1 << 15 };  // fewer aren't given back
 enum { SMALL = 1 << 11, WORDS_OF_A_STEP = 1 << 8 };
 
 // A tautology is never unit or a conflict.
-static void make_known(Filter *filter, ClauseRef ref) {
+static void make_known(Filter *filter, ClauseRef ref, uint64_t hash) {
     if (clause_at(&filter->clauses, ref)->flags & TAUTOLOGY) return;
     PUSH(&filter->propagation.waiting, ref);
-    if (!filter->frat) clauses_keep_set(&filter->clauses, ref);
+    if (!filter->frat) clauses_keep_set(&filter->clauses, ref, hash);
 }
 
 static void meet_by(Filter *filter, uint64_t clause) {
@@ -47,7 +48,7 @@ void filter_open(Filter *filter, bool frat) {
         ClauseRef ref =
             clauses_add(&filter->clauses, k + 1, literals->items, literals->length, tautology);
         if (!frat) clauses_name(&filter->clauses, k + 1, ref);
-        make_known(filter, ref);
+        make_known(filter, ref, clauses_hash(&filter->clauses, ref));
         bool is_shorter = filter->meeting == 0 || literals->length < filter->met.length;
         if (filter_has_windows(filter) && !tautology && is_shorter) meet_by(filter, k + 1);
     }
@@ -67,10 +68,6 @@ void filter_name_formula(Filter *filter) {
     filter->frat = false;
 }
 
-static uint64_t owner(const Filter *filter, uint64_t identity) {
-    return (identity - filter->formula.clauses - 1) % filter->streams + 1;
-}
-
 // Reads the literals of a step without repetitions, and marks them. False if the formula lacks one
 // of the variables.
 static bool mark_literals(Filter *filter, const int64_t *numbers, size_t length, bool *tautology) {
@@ -87,10 +84,11 @@ static bool mark_literals(Filter *filter, const int64_t *numbers, size_t length,
         *tautology |= marks[complement_of(literal)] != OPEN;
         PUSH(literals, literal);
     }
+    filter->hash = hash_literals(literals->items, literals->length);
     return true;
 }
 
-static void unmark_literals(Filter *filter) {
+void filter_unmark(Filter *filter) {
     for (size_t k = 0; k < filter->literals.length; k++)
         filter->hints.marks[filter->literals.items[k]] = OPEN;
     filter->literals.length = 0;
@@ -109,12 +107,12 @@ static bool mark_or_stop(Filter *filter, const int64_t *numbers, size_t length) 
 static ClauseRef find_other(Filter *filter, int64_t name) {
     uint64_t identity = (uint64_t)name;
     if (filter->frat || name <= (int64_t)filter->formula.clauses) return 0;
-    Other *other = others_find(&filter->others, owner(filter, identity));
+    Other *other = others_find(&filter->others, filter_stream_of(filter, identity));
     if (other == NULL) return 0;
     ClauseRef ref = other_clause(other, &filter->clauses, identity);
     if (ref == 0) return 0;
     clauses_name(&filter->clauses, identity, ref);
-    make_known(filter, ref);
+    make_known(filter, ref, clauses_hash(&filter->clauses, ref));
     return ref;
 }
 
@@ -148,19 +146,6 @@ uint64_t filter_next_identity(const Filter *filter) {
 
 // Windows.
 
-uint64_t filter_owner(const Filter *filter) {
-    uint64_t window = (filter->additions - filter->earlier) / filter->windows.size;
-    return window % filter->windows.filters;
-}
-
-uint64_t filter_own_additions(const Filter *filter, uint64_t number) {
-    uint64_t size = filter->windows.size, cycle = size * filter->windows.filters;
-    uint64_t additions = filter->additions - filter->earlier, begin = number * size,
-             rest = additions % cycle;
-    uint64_t own = rest < begin ? 0 : rest - begin < size ? rest - begin : size;
-    return additions / cycle * size + own;
-}
-
 uint64_t filter_identity(const Filter *filter, uint64_t number, uint64_t own_addition) {
     uint64_t place = IDENTITIES_OF_AN_ADDITION * own_addition + IDENTITIES_OF_AN_ADDITION - 1,
              stream = filter->stream - filter->windows.number + number,
@@ -171,8 +156,8 @@ uint64_t filter_identity(const Filter *filter, uint64_t number, uint64_t own_add
 
 // The identity of this step's addition.
 static uint64_t identity_by_number(const Filter *filter) {
-    uint64_t number = filter_owner(filter);
-    return filter_identity(filter, number, filter_own_additions(filter, number));
+    uint64_t number = filter->windows.owner;
+    return filter_identity(filter, number, windows_own(&filter->windows, number));
 }
 
 // The stream's next identity; or the identity that LRAT gives, if there is only one stream or other
@@ -181,7 +166,7 @@ static uint64_t new_identity(const Filter *filter, const Addition *addition) {
     int64_t formula = (int64_t)filter->formula.clauses, name = addition->name;
     if (addition->named && filter->keeps_identities && !filter->frat) {
         if (name <= formula || name <= (int64_t)filter->last ||
-            owner(filter, (uint64_t)name) != filter->stream)
+            filter_stream_of(filter, (uint64_t)name) != filter->stream)
             stop("the identity %lld isn't the stream's own, or isn't above the previous one",
                  (long long)name);
         return (uint64_t)name;
@@ -201,7 +186,7 @@ static uint64_t lemmas_possible(const Filter *filter, const Addition *addition) 
 
 static ClauseRef add_clause(Filter *filter, uint64_t identity) {
     assert(identity > filter->last && identity > filter->formula.clauses &&
-           owner(filter, identity) == filter->stream);
+           filter_stream_of(filter, identity) == filter->stream);
     filter->last = identity;
     return clauses_add(&filter->clauses, identity, filter->literals.items, filter->literals.length,
                        false);
@@ -297,7 +282,8 @@ static _Noreturn void stop_without_conflict(Filter *filter, const Addition *addi
     long long name = missing;
     bool is_alone = filter->frat || (filter->hooks && filter->others.length == 0);
     bool may_be_shared = !is_alone && missing > (int64_t)filter->formula.clauses;
-    unsigned long long stream = may_be_shared ? owner(filter, (uint64_t)missing) : filter->stream;
+    unsigned long long stream =
+        may_be_shared ? filter_stream_of(filter, (uint64_t)missing) : filter->stream;
     if (may_be_shared && filter->streams == 1)
         stop("%s, and the step cites the clause %lld, which isn't there: if it is another "
              "stream's, use --streams and --other",
@@ -359,7 +345,7 @@ static void keep(Filter *filter, const Addition *addition, ClauseRef ref) {
     const Clause *clause = clause_at(&filter->clauses, ref);
     filter->renumbered |= addition->named && addition->name != (int64_t)clause->identity;
     if (addition->named) clauses_name(&filter->clauses, (uint64_t)addition->name, ref);
-    make_known(filter, ref);
+    make_known(filter, ref, filter->hash);
 }
 
 // Adds a clause that another filter derives. Without hints, that filter propagates now. The clause
@@ -388,14 +374,24 @@ static void derive(Filter *filter, const Addition *addition) {
 static void add(Filter *filter, const Addition *addition) {
     filter->named |= addition->named;
     if (filter->hooks) filter->hooks->before_line(filter);
-    if (filter_has_windows(filter) && filter_owner(filter) != filter->windows.number)
+    if (filter_has_windows(filter) && filter->windows.owner != filter->windows.number)
         leave_to_another(filter, addition);
     else
         derive(filter, addition);
     filter->additions++;
+    if (filter_has_windows(filter)) windows_pass(&filter->windows);
 }
 
 // A tautology is of no use, and lrupd refuses it.
+static void add_marked(Filter *filter, const Addition *addition, bool tautology) {
+    if (addition->named && clauses_named(&filter->clauses, (uint64_t)addition->name) != 0)
+        stop("the identity %lld is used twice", (long long)addition->name);
+    if (!tautology && !filter->refuted) add(filter, addition);
+    filter->marked = 0;
+    filter_unmark(filter);
+    CHECK(filter_check(filter));
+}
+
 void filter_add(Filter *filter, const Addition *addition) {
     filter->steps++;
     int64_t least = 0;
@@ -404,13 +400,12 @@ void filter_add(Filter *filter, const Addition *addition) {
     if (least < 0)
         stop("a RAT step (negative hints), which lrupd doesn't check: switch off the "
              "techniques that make them");
-    bool tautology = mark_or_stop(filter, addition->literals, addition->length);
-    if (addition->named && clauses_named(&filter->clauses, (uint64_t)addition->name) != 0)
-        stop("the identity %lld is used twice", (long long)addition->name);
-    if (!tautology && !filter->refuted) add(filter, addition);
-    filter->marked = 0;
-    unmark_literals(filter);
-    CHECK(filter_check(filter));
+    add_marked(filter, addition, mark_or_stop(filter, addition->literals, addition->length));
+}
+
+void filter_add_marked(Filter *filter, bool tautology) {
+    filter->steps++;
+    add_marked(filter, &(Addition){ .named = false }, tautology);
 }
 
 // Whether the marked literals are those of the clause.
@@ -438,7 +433,8 @@ void filter_import(Filter *filter, int64_t identity, const int64_t *literals, si
     if (filter->hooks && filter->others.length == 0)
         stop("an import, but the solver shares nothing");
     if (filter->refuted) return;
-    if (identity < 1 || (identity > formula && owner(filter, (uint64_t)identity) == filter->stream))
+    if (identity < 1 ||
+        (identity > formula && filter_stream_of(filter, (uint64_t)identity) == filter->stream))
         stop("an import of %lld, which isn't a clause of the formula or of another stream",
              (long long)identity);
     bool tautology = mark_or_stop(filter, literals, length);
@@ -454,11 +450,11 @@ void filter_import(Filter *filter, int64_t identity, const int64_t *literals, si
         ref = clauses_add(&filter->clauses, (uint64_t)identity, filter->literals.items,
                           filter->literals.length, tautology);
         clauses_name(&filter->clauses, (uint64_t)identity, ref);
-        make_known(filter, ref);
+        make_known(filter, ref, filter->hash);
     } else if (!same_literals(filter, clause_at(&filter->clauses, ref))) {
         stop("the literals of the import aren't those of the clause %lld", (long long)identity);
     }
-    unmark_literals(filter);
+    filter_unmark(filter);
     write_import((uint64_t)identity, literals, length);
 }
 
@@ -470,12 +466,12 @@ void filter_meet(Filter *filter) {
     filter->literals = filter->met;
     filter->chain.length = 0;
     PUSH(&filter->chain, filter->meeting);
-    uint64_t own = filter_identity(filter, number, filter_own_additions(filter, number));
+    uint64_t own = filter_identity(filter, number, windows_own(&filter->windows, number));
     clauses_delete(&filter->clauses, filter_write_line(filter, own));
     filter->literals = of_step;
     for (uint64_t other = 0; other < filter->windows.filters; other++)
         if (other != number)
-            write_import(filter_identity(filter, other, filter_own_additions(filter, other)),
+            write_import(filter_identity(filter, other, windows_own(&filter->windows, other)),
                          numbers, filter->met.length);
     grow(numbers, 0);
 }
@@ -484,9 +480,10 @@ void filter_meet(Filter *filter) {
 void filter_take_over(Filter *filter, uint64_t identity, const int64_t *literals, size_t length) {
     bool tautology = mark_or_stop(filter, literals, length);
     if (length > LITERALS_OF_A_LINE) filter_stop_too_long(filter);
-    make_known(filter, clauses_add(&filter->clauses, identity, filter->literals.items,
-                                   filter->literals.length, tautology));
-    unmark_literals(filter);
+    ClauseRef ref = clauses_add(&filter->clauses, identity, filter->literals.items,
+                                filter->literals.length, tautology);
+    make_known(filter, ref, filter->hash);
+    filter_unmark(filter);
     write_import(identity, literals, length);
 }
 
@@ -517,7 +514,8 @@ static void delete (Filter *filter, ClauseRef ref) {
     clauses_delete(&filter->clauses, ref);
     if (filter->keeps_clauses) return;
     PUSH(&filter->chain, identity);
-    if (identity <= filter->formula.clauses || owner(filter, identity) == filter->stream) return;
+    if (identity <= filter->formula.clauses || filter_stream_of(filter, identity) == filter->stream)
+        return;
     if (clauses_named(&filter->dropped, identity) == 0) clauses_name(&filter->dropped, identity, 1);
 }
 
@@ -557,27 +555,48 @@ void filter_delete(Filter *filter, const int64_t *names, size_t length) {
     filter_write_deletion(filter);
 }
 
-// A clause with these literals that hasn't been taken yet, or 0.
-static ClauseRef take_set(Filter *filter, const int64_t *literals, size_t length) {
-    bool tautology;
-    ClauseRef ref = 0;
-    if (mark_literals(filter, literals, length, &tautology))
-        ref = clauses_take_set(&filter->clauses, filter->literals.items, filter->literals.length,
-                               filter->hints.marks);
-    unmark_literals(filter);
+// A clause with the marked literals that hasn't been taken yet, or 0. Unmarks them.
+static ClauseRef take_marked(Filter *filter) {
+    ClauseRef ref = clauses_take_set(&filter->clauses, filter->hash, filter->literals.length,
+                                     filter->hints.marks);
+    filter_unmark(filter);
     return ref;
 }
 
-void filter_delete_literals(Filter *filter, const int64_t *literals, size_t length) {
+// A clause with these literals that hasn't been taken yet, or 0.
+static ClauseRef take_set(Filter *filter, const int64_t *literals, size_t length) {
+    bool tautology;
+    if (mark_literals(filter, literals, length, &tautology)) return take_marked(filter);
+    filter_unmark(filter);
+    return 0;
+}
+
+// Prepares a deletion by literals. Returns whether it matters.
+static bool begin_deletion(Filter *filter) {
     filter->steps++;
-    if (filter->refuted) return;
+    if (filter->refuted) return false;
     if (filter->clauses.sets == NULL) clauses_keep_sets(&filter->clauses);
     propagation_settle(&filter->propagation);
-    ClauseRef ref = take_set(filter, literals, length);
     filter->chain.length = 0;
+    return true;
+}
+
+// Deletes a clause that was taken, unless there is none or it is needed.
+static void end_deletion(Filter *filter, ClauseRef ref) {
     if (ref == 0 || filter->ignores_deletions || is_needed(filter, ref)) return;
     delete (filter, ref);
     filter_write_deletion(filter);
+}
+
+void filter_delete_literals(Filter *filter, const int64_t *literals, size_t length) {
+    if (begin_deletion(filter)) end_deletion(filter, take_set(filter, literals, length));
+}
+
+void filter_delete_marked(Filter *filter) {
+    if (begin_deletion(filter))
+        end_deletion(filter, take_marked(filter));
+    else
+        filter_unmark(filter);
 }
 
 // Steps that only FRAT has.
@@ -617,8 +636,8 @@ static void identities_check(const Filter *filter) {
     for (ClauseRef ref = 0; (ref = clauses_after(clauses, ref)) != 0;) {
         uint64_t identity = clause_at(clauses, ref)->identity;
         assert(identity > 0);
-        assert(identity <= filter->formula.clauses || owner(filter, identity) != filter->stream ||
-               identity <= filter->last);
+        assert(identity <= filter->formula.clauses ||
+               filter_stream_of(filter, identity) != filter->stream || identity <= filter->last);
     }
     for (size_t name = 0; name < clauses->near.length && !filter->frat && !filter->renumbered;
          name++)

@@ -46,7 +46,6 @@ struct Filter {
     uint64_t stream, streams;
     Windows windows;
     uint64_t additions;      // how many came before this step, without tautologies
-    uint64_t earlier;        // how many of these came before this round
     uint64_t meeting;        // the formula's clause that ends a round in windows; 0: none
     Literals met;            // its literals
     uint64_t originals;      // clauses of the formula that the proof is of
@@ -71,7 +70,8 @@ struct Filter {
     Propagation propagation;
     Hints hints;
     Clauses dropped;    // names only: the deleted clauses of other streams
-    Literals literals;  // of the step, each once
+    Literals literals;  // of the step, each once; while it is read, they are marked in `hints`
+    uint64_t hash;      // of these literals
     ClauseRefs given;
     Identities chain;
     Literals spare, left;  // a lemma's literals; those that a shortened clause keeps
@@ -87,6 +87,13 @@ typedef struct {
     const Line *line;  // the step's line if it is spelled as in a stream, or NULL
 } Addition;
 
+// The stream that an identity above the formula's belongs to. Small numbers are divided faster.
+static inline uint64_t filter_stream_of(const Filter *filter, uint64_t identity) {
+    uint64_t place = identity - filter->formula.clauses - 1, streams = filter->streams;
+    bool is_small = (place | streams) >> 32 == 0;
+    return (is_small ? (uint32_t)place % (uint32_t)streams : place % streams) + 1;
+}
+
 // call between steps; it checks rarely enough to take no longer than the steps do
 void filter_check(const Filter *filter);
 
@@ -95,14 +102,18 @@ static inline bool filter_ends(const Filter *filter) {
     return filter->hooks && filter->hooks->should_stop();
 }
 
+void filter_unmark(Filter *filter);  // the literals of the step, which then has none
+
 void filter_open(Filter *filter, bool frat);
 // before the first step, if the filter was opened for FRAT and the proof has another form
 void filter_name_formula(Filter *filter);
 void filter_add(Filter *filter, const Addition *addition);
+void filter_add_marked(Filter *filter, bool tautology);  // the marked literals, without hints
 void filter_import(Filter *filter, int64_t identity, const int64_t *literals, size_t length);
 void filter_take_over(Filter *filter, uint64_t identity, const int64_t *literals, size_t length);
 void filter_delete(Filter *filter, const int64_t *names, size_t length);
 void filter_delete_literals(Filter *filter, const int64_t *literals, size_t length);
+void filter_delete_marked(Filter *filter);  // a clause with the marked literals
 void filter_original(Filter *filter, int64_t name, const int64_t *literals, size_t length);
 void filter_rename(Filter *filter, const int64_t *pairs, size_t length);
 void filter_write_deletion(Filter *filter);  // of the identities in filter->chain
@@ -114,9 +125,6 @@ _Noreturn void filter_stop_too_long(Filter *filter);
 
 // Windows. A filter's additions are numbered from 0 in each round.
 static inline bool filter_has_windows(const Filter *filter) { return filter->windows.filters > 1; }
-uint64_t filter_owner(const Filter *filter);  // which filter derives this step's addition
-// how many additions of this round that filter derives before this step
-uint64_t filter_own_additions(const Filter *filter, uint64_t number);
 // the identity of that filter's addition
 uint64_t filter_identity(const Filter *filter, uint64_t number, uint64_t own_addition);
 // Adds a clause, and imports the same one of each other filter of the proof, which do this before

@@ -8,7 +8,7 @@
 #include "next_round.h"
 
 static bool is_own(const Filter *filter, uint64_t identity) {
-    return (identity - filter->formula.clauses - 1) % filter->streams == filter->stream - 1;
+    return filter_stream_of(filter, identity) == filter->stream;
 }
 
 // Marks the clause if the stream may delete it. The marks of the formula's clauses come first, then
@@ -82,7 +82,7 @@ void round_begin(Filter *filter, const Checkpoint *checkpoint, uint64_t stream, 
     filter->stream = stream;
     filter->streams = streams;
     filter->last = filter->taken = 0;
-    filter->earlier = filter->additions;
+    windows_begin_round(&filter->windows);
     filter->keeps_identities = false;
     filter->renumbered = true;
 }

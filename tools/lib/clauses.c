@@ -105,14 +105,18 @@ void clauses_forget_name(Clauses *clauses, uint64_t name) {
 
 // Sets of literals.
 
-static size_t set_place(const Clauses *clauses, const Literal *literals, size_t length) {
-    return hash_number(hash_literals(literals, length)) & (clauses->sets_capacity - 1);
+static size_t set_place(const Clauses *clauses, uint64_t hash) {
+    return hash_number(hash) & (clauses->sets_capacity - 1);
 }
 
-static void link_set(Clauses *clauses, ClauseRef ref) {
-    Clause *clause = clause_at(clauses, ref);
-    size_t set = set_place(clauses, clause->literals, clause->length);
-    clause->next = clauses->sets[set];
+uint64_t clauses_hash(const Clauses *clauses, ClauseRef ref) {
+    const Clause *clause = clause_at(clauses, ref);
+    return hash_literals(clause->literals, clause->length);
+}
+
+static void link_set(Clauses *clauses, ClauseRef ref, uint64_t hash) {
+    size_t set = set_place(clauses, hash);
+    clause_at(clauses, ref)->next = clauses->sets[set];
     clauses->sets[set] = ref;
 }
 
@@ -128,7 +132,7 @@ static void link_again(Clauses *clauses, ClauseRef ref) {
     }
     while (reversed != 0) {
         ClauseRef next = clause_at(clauses, reversed)->next;
-        link_set(clauses, reversed);
+        link_set(clauses, reversed, clauses_hash(clauses, reversed));
         reversed = next;
     }
 }
@@ -142,10 +146,10 @@ static void grow_sets(Clauses *clauses) {
     free(old);
 }
 
-void clauses_keep_set(Clauses *clauses, ClauseRef ref) {
+void clauses_keep_set(Clauses *clauses, ClauseRef ref, uint64_t hash) {
     if (clauses->sets == NULL) return;
     if (clauses->sets_length++ >= clauses->sets_capacity) grow_sets(clauses);
-    link_set(clauses, ref);
+    link_set(clauses, ref, hash);
 }
 
 void clauses_keep_sets(Clauses *clauses) {
@@ -154,7 +158,8 @@ void clauses_keep_sets(Clauses *clauses) {
     for (size_t at = 1; at < clauses->used;) {
         Clause *clause = clause_at(clauses, (ClauseRef)at);
         size_t words = words_of(clause->length);
-        if (!(clause->flags & DEAD)) clauses_keep_set(clauses, (ClauseRef)at);
+        if (!(clause->flags & DEAD))
+            clauses_keep_set(clauses, (ClauseRef)at, clauses_hash(clauses, (ClauseRef)at));
         at += words;
     }
 }
@@ -164,11 +169,11 @@ void clauses_forget_sets(Clauses *clauses) {
     clauses->sets_length = clauses->sets_capacity = 0;
 }
 
-// Unlinks and returns the latest clause with these literals, or returns 0 if there is none. The
-// literals are distinct and marked.
-ClauseRef clauses_take_set(Clauses *clauses, const Literal *literals, size_t length,
+// Unlinks and returns the latest clause that has just the marked literals, or returns 0 if there is
+// none. The hash is theirs, and the length says how many they are.
+ClauseRef clauses_take_set(Clauses *clauses, uint64_t hash, size_t length,
                            const unsigned char *marks) {
-    ClauseRef *link = &clauses->sets[set_place(clauses, literals, length)];
+    ClauseRef *link = &clauses->sets[set_place(clauses, hash)];
     for (; *link != 0; link = &clause_at(clauses, *link)->next) {
         const Clause *clause = clause_at(clauses, *link);
         size_t same = 0;
@@ -277,7 +282,7 @@ static void sets_check(const Clauses *clauses) {
         for (ClauseRef ref = clauses->sets[k]; ref != 0; ref = clause_at(clauses, ref)->next) {
             const Clause *clause = clause_at(clauses, ref);
             assert(ref < clauses->used && !(clause->flags & DEAD));
-            assert(set_place(clauses, clause->literals, clause->length) == k);
+            assert(set_place(clauses, clauses_hash(clauses, ref)) == k);
             length++;
         }
     assert(length == clauses->sets_length);

@@ -58,9 +58,10 @@ static inline ClauseRef clauses_named(const Clauses *clauses, uint64_t name) {
 void clauses_name(Clauses *clauses, uint64_t name, ClauseRef ref);
 void clauses_forget_name(Clauses *clauses, uint64_t name);
 void clauses_keep_sets(Clauses *clauses);  // of the clauses present, and of later ones
-void clauses_keep_set(Clauses *clauses, ClauseRef ref);
+uint64_t clauses_hash(const Clauses *clauses, ClauseRef ref);  // of its literals
+void clauses_keep_set(Clauses *clauses, ClauseRef ref, uint64_t hash);
 void clauses_forget_sets(Clauses *clauses);
-ClauseRef clauses_take_set(Clauses *clauses, const Literal *literals, size_t length,
+ClauseRef clauses_take_set(Clauses *clauses, uint64_t hash, size_t length,
                            const unsigned char *marks);
 void clauses_delete(Clauses *clauses, ClauseRef ref);
 // the next clause that isn't deleted, or 0; after 0, the first one

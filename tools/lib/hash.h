@@ -13,10 +13,16 @@ static inline uint64_t hash_number(uint64_t number) {
     return number ^ number >> 32;
 }
 
-// The order of the literals doesn't matter.
+// A set's hash is the sum of its literals' hashes. The upper half of the product goes into the lower
+// one, so that sets with equal sums of literals have different hashes.
+static inline uint64_t hash_literal(uint64_t literal) {
+    uint64_t product = (literal + 1) * UINT64_C(0x9E3779B97F4A7C15);
+    return product ^ product >> 32;
+}
+
 static inline uint64_t hash_literals(const Literal *literals, size_t length) {
-    uint64_t sum = length;
-    for (size_t k = 0; k < length; k++) sum += hash_number((uint64_t)literals[k] + 1);
+    uint64_t sum = 0;
+    for (size_t k = 0; k < length; k++) sum += hash_literal((uint64_t)literals[k]);
     return sum;
 }
 

@@ -320,7 +320,7 @@ static void next_round_for(uint64_t literals) {
 // Call before each addition. A filter that is far ahead of the others waits: `written` still has the
 // window that lrupd gets last.
 static void pass_windows(void) {
-    uint64_t window = (filter.additions - filter.earlier) / filter.windows.size;
+    uint64_t window = filter.windows.current;
     if (window == seen_window) return;
     seen_window = window;
     if (is_past_stop()) leave_to_others();
@@ -334,8 +334,8 @@ static void pass_windows(void) {
 // Whether the round has room for this step's addition, and for the clause that ends the round.
 // Every filter of the proof finds the same, since each knows all clauses.
 static bool has_room_in_windows(uint64_t literals) {
-    uint64_t owner = filter_owner(&filter), own_additions = filter_own_additions(&filter, owner),
-             lines = IDENTITIES_OF_AN_ADDITION * (own_additions + 2);
+    uint64_t owner = filter.windows.owner,
+             lines = IDENTITIES_OF_AN_ADDITION * (windows_own(&filter.windows, owner) + 2);
     return lines <= LOAD(own->shared->most_lines) &&
            literals_taken[owner] + literals + filter.met.length <= LOAD(own->shared->most_literals);
 }
@@ -347,10 +347,10 @@ static void before_line_in_windows(void) {
     pass_windows();
     if (!has_room_in_windows(literals)) {
         STORE(engine_status->wanted, literals + filter.met.length);
-        if (filter.additions > filter.earlier) next_round();
+        if (filter.windows.current > 0 || filter.windows.within > 0) next_round();
         if (!has_room_in_windows(literals)) leave_to_one("a row has no room for its clause");
     }
-    literals_taken[filter_owner(&filter)] += literals;
+    literals_taken[filter.windows.owner] += literals;
     booked = filter.additions + 1;
 }
 
@@ -384,15 +384,26 @@ static bool is_elsewhere(uint64_t stream) {
     return true;
 }
 
-static void count(void) {
-    uint64_t others = 0, elsewhere = 0, formula = filter.formula.clauses;
-    for (size_t k = 0; k < filter.chain.length; k++) {
-        uint64_t identity = filter.chain.items[k],
-                 stream = identity > formula ? (identity - formula - 1) % filter.streams + 1 : 0;
-        if (stream == 0 || stream == filter.stream) continue;
-        others++;
-        elsewhere += is_elsewhere(stream);
+// Of whose clauses, besides the formula's, the line cites some: only of its own stream, of another
+// one, or of one on another host.
+typedef enum { OWN, ANOTHER, ELSEWHERE } Cited;
+
+static Cited cited(void) {
+    const Shared *shared = own->shared;
+    Cited found = OWN, most = shared->engines_here < shared->engines ? ELSEWHERE : ANOTHER;
+    if (filter.streams == 1) return OWN;
+    for (size_t k = 0; k < filter.chain.length && found < most; k++) {
+        if (filter.chain.items[k] <= filter.formula.clauses) continue;
+        uint64_t stream = filter_stream_of(&filter, filter.chain.items[k]);
+        if (stream == filter.stream) continue;
+        found = most == ELSEWHERE && is_elsewhere(stream) ? ELSEWHERE : ANOTHER;
     }
+    return found;
+}
+
+static void count(void) {
+    uint64_t formula = filter.formula.clauses;
+    Cited whose = cited();
     STORE(engine_status->last, filter.last);
     STORE(engine_status->lines, engine_status->lines + 1);
     STORE(engine_status->literals, engine_status->literals + filter.literals.length);
@@ -400,8 +411,8 @@ static void count(void) {
     STORE(engine_status->round_literals, engine_status->round_literals + filter.literals.length);
     STORE(engine_status->hints, engine_status->hints + filter.chain.length);
     STORE(engine_status->other_hints, filter.other_hints);
-    STORE(engine_status->citing_others, engine_status->citing_others + (others > 0));
-    STORE(engine_status->citing_elsewhere, engine_status->citing_elsewhere + (elsewhere > 0));
+    STORE(engine_status->citing_others, engine_status->citing_others + (whose != OWN));
+    STORE(engine_status->citing_elsewhere, engine_status->citing_elsewhere + (whose == ELSEWHERE));
 }
 
 // Whether the clause is empty, or contradicts the assumptions.
@@ -510,7 +521,8 @@ void filter_process(const Filtering *filtering, const void *formula) {
     filter.formula = *(const Formula *)formula;
     filter.stream = LOAD(engine_status->stream);
     filter.streams = LOAD(own->shared->streams);
-    filter.windows = (Windows){ own->filters, own->number, own->window };
+    filter.windows =
+        (Windows){ .filters = own->filters, .number = own->number, .size = own->window };
     filter.last = filter.taken = own->taken;
     filter.spared = own->spared;
     literals_taken = zeroed(own->filters, sizeof *literals_taken);
