@@ -74,7 +74,7 @@ run: build ## try: the same, proved first; try and run take FORMULA=path STREAMS
 	case $$status in 0|3|8) ;; *) exit $$status ;; esac
 
 # Prints a line for each crate once it is proved, and how much is left.
-build: toolchain ## build: prove lrupd and lrup-model, 15 to 26 minutes the first time, and leave them at out/bin
+build: toolchain ## build: prove lrupd and lrup-model, 13 to 26 minutes the first time, and leave them at out/bin
 	@python3 gate/build.py $(RT) $(PROGRAM)
 
 # The filter is installed as lrup-exact. Tools whose libraries aren't there are left out. The manual
