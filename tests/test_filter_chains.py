@@ -20,7 +20,7 @@ from typing import Iterable, List, Sequence, Tuple, Union
 import pytest
 
 from harness import (BUILDS, FILTER, PROGRAM, PROOFS, ROOT, SANITIZING, Ran, dimacs, enough_for,
-                     example, for_tests, named, needs, random_clauses, run, sources_of, started,
+                     example, for_tests, generated, needs, random_clauses, run, sources_of, started,
                      unwatched, watched_ends, written)
 from lrat import lrat_fault
 from proof_forms import FORMS, read_formula, read_steps
@@ -287,7 +287,8 @@ def test_short_lines_in_rounds(form: str, tmp_path: Path) -> None:
 
 
 def test_short_lines_of_random_drat(tmp_path: Path) -> None:
-    want_short(PROOFS / "random.cnf", (PROOFS / "random.drat").read_bytes(), "drat", tmp_path)
+    want_short(generated("random 60 2 5", tmp_path), (PROOFS / "random.drat").read_bytes(), "drat",
+               tmp_path)
 
 
 def random_formula(seed: int) -> str:
