@@ -489,6 +489,25 @@ def each_of(table: Iterable[Tuple[str, Wanted]]) -> pytest.MarkDecorator:
     return pytest.mark.parametrize("wanted", named(table))
 
 
+Runs = Callable[[], Iterable[Tuple[str, Wanted]]]
+
+
+def runs(table: Runs) -> Callable[..., None]:
+    """Makes a test of a function that yields named runs: each has the expected answer."""
+    @each_of(table())
+    def test(program: str, wanted: Wanted, tmp_path: Path) -> None:
+        answers(program, wanted, tmp_path)
+    return test
+
+
+def runs_in_both_ways(table: Runs) -> Callable[..., None]:
+    """The same, with threads and with --serial."""
+    @each_of(table())
+    def test(program: str, way: List[str], wanted: Wanted, tmp_path: Path) -> None:
+        answers(program, wanted.under(way), tmp_path)
+    return test
+
+
 def need_much_memory() -> None:
     available = re.search(r"^MemAvailable: +(\d+)", Path("/proc/meminfo").read_text(), re.M)
     if not available or int(available[1]) < 4_000_000:
