@@ -8,8 +8,8 @@ from typing import Dict, List, Sequence, Set
 
 import pytest
 
-from harness import (BUILDS, FILTER, LIMIT, ROOT, Ran, alone, needs, run, sanitized_explain,
-                     sanitized_filter, sanitized_trim, written)
+from harness import (BUILDS, FILTER, LIMIT, ROOT, VERSION, Ran, alone, executable, needs, run,
+                     sanitized_explain, sanitized_filter, sanitized_trim)
 from solving import built
 
 C = {"CC": "one-cc", "CFLAGS": "-DFLAG_OF_C", "CPPFLAGS": "-DFLAG_OF_BOTH", "LDFLAGS": "-Lflag",
@@ -173,10 +173,8 @@ def test_install_and_uninstall(tmp_path: Path) -> None:
     """Installs built programs without the toolchain. `make -n install` changes nothing; `make
     install` installs each program, with a manual page and a completion, the pages and the
     examples. Uninstalling leaves nothing. A missing program is reported."""
-    program, model = (written(f"#!/bin/sh\necho 'usage: {usage}'\n", tmp_path, usage.split()[0])
+    program, model = (executable(f"echo 'usage: {usage}'", tmp_path, usage.split()[0])
                       for usage in ("lrupd [--lines N] [--help]", "lrup-model [--assume FILE]"))
-    program.chmod(0o755)
-    model.chmod(0o755)
     place = tmp_path / "a place"
 
     def files() -> List[Path]:
@@ -201,8 +199,7 @@ def test_install_and_uninstall(tmp_path: Path) -> None:
     completion = (place / "usr/share/bash-completion/completions/lrupd").read_text()
     assert '-W "--help --lines"' in completion
     done = run([place / "usr/bin/lrup-recheck", "--version"])
-    version = (ROOT / "VERSION").read_text().strip()
-    assert (done.err, done.status) == (f"lrup-recheck {version}\n", 2)
+    assert (done.err, done.status) == (f"lrup-recheck {VERSION}\n", 2)
     assert make("uninstall").err == ""
     assert files() == []
     model.unlink()

@@ -22,7 +22,7 @@ from typing import Callable, Dict, List, NamedTuple, Optional, Sequence, Set, Tu
 import pytest
 
 from faulty import garbled_text, refuted
-from harness import (COMPRESSED, EXAMPLES, EXPLAIN, FOUR, NONE_BAD, ROOT, SANITIZING, Ran,
+from harness import (COMPRESSED, EXAMPLES, EXPLAIN, FOUR, NONE_BAD, ROOT, SANITIZING, VERSION, Ran,
                      compiler, enough_for, example, generated, named, piped, run,
                      sanitized_explain, written)
 from mutations import Mutant
@@ -880,5 +880,4 @@ def test_help(word: str, tmp_path: Path) -> None:
 
 
 def test_version() -> None:
-    version = (ROOT / "VERSION").read_text().strip()
-    assert run([EXPLAIN, "--version"]) == Ran(f"lrup-explain {version}\n", "", 0)
+    assert run([EXPLAIN, "--version"]) == Ran(f"lrup-explain {VERSION}\n", "", 0)

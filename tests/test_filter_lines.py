@@ -7,7 +7,7 @@ from typing import List, Tuple
 import pytest
 
 from filtering import FIRST, ONE_OF_TWO, Text, at_place, check, check_report, exact, sorted_hints
-from harness import COMPRESSED, FILTER, FOUR, ROOT, Ran, dimacs, enough_for, named, run, written
+from harness import COMPRESSED, FILTER, FOUR, VERSION, Ran, dimacs, enough_for, named, run, written
 from proof_forms import code, codes, varint
 
 UNITS = "p cnf 3 4\n1 0\n-1 2 0\n-2 3 0\n-3 -2 0\n"
@@ -387,5 +387,4 @@ def test_summary_and_version() -> None:
     text, said, status = exact(["--help"])
     assert (said, status) == ("", 0)
     assert text.startswith("usage: lrup-exact ")
-    version = (ROOT / "VERSION").read_text().strip()
-    assert run([FILTER, "--version"]) == Ran(f"lrup-exact {version}\n", "", 0)
+    assert run([FILTER, "--version"]) == Ran(f"lrup-exact {VERSION}\n", "", 0)

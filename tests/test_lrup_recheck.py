@@ -21,7 +21,8 @@ from typing import (Any, Callable, Dict, Iterator, List, Mapping, NamedTuple, Op
 import pytest
 
 from harness import (FOUR, LIMIT, LRUP_RECHECK, ROOT, SMALL_ROW, Ran, Wanted, answers, each_of,
-                     held, named, pack, piped, report, run, small, started, until, within, written)
+                     executable, held, named, pack, piped, report, run, small, started, until,
+                     within, written)
 from rounds import ONE, fault, last, round_files, saved_name
 
 SHELLS = {"dash": ["dash"], "bash": ["bash"], "busybox": ["busybox", "sh"]}
@@ -272,8 +273,7 @@ def processes_in(folder: Path) -> List[str]:
 def test_a_signal_while_packed_streams_are_checked(recheck: Recheck, tmp_path: Path) -> None:
     """It comes while lrupd waits: no pipe and no process is left."""
     names = lay_packed(["xz", "gz"], tmp_path)
-    slow = written("#!/bin/sh\nexec sleep 1000\n", tmp_path, "slow")
-    slow.chmod(0o755)
+    slow = executable("exec sleep 1000", tmp_path, "slow")
     with started(recheck._replace(lrupd=str(slow)).command("d", "formula"), cwd=tmp_path,
                  stdout=subprocess.DEVNULL) as running:
         until("lrupd runs", lambda: "sleep" in processes_in(tmp_path))
@@ -369,9 +369,8 @@ def test_a_record_whose_formula_is_replaced(recheck: Recheck, tmp_path: Path) ->
     formula = lay_record(tmp_path)
     wanted = Ran(first_line("formula", formula) + REFUTED, "", 0)
     for name in ("sha256sum", "shasum", "openssl"):
-        tool = written(f"#!/bin/sh\n'{shutil.which('sha256sum')}' && echo > replaced.new && "
-                       f"mv replaced.new '{formula}'\n", tmp_path / "tools", name)
-        tool.chmod(0o755)
+        executable(f"'{shutil.which('sha256sum')}' && echo > replaced.new && "
+                   f"mv replaced.new '{formula}'", tmp_path / "tools", name)
     path = f"{tmp_path}/tools:{os.environ['PATH']}"
     want_answer(recheck, ["d"], wanted, tmp_path,
                 env={**os.environ, "TMPDIR": "temporary", "PATH": path})
@@ -513,8 +512,7 @@ def test_another_lrupd(recheck: Recheck, tmp_path: Path) -> None:
     """The status and the output are those of the program in lrupd's place."""
     lay(tmp_path)
     for status in range(256):
-        written(f"#!/bin/sh\necho s UNSATISFIABLE; echo said >&2; exit {status}\n", tmp_path,
-                "lrupd").chmod(0o755)
+        executable(f"echo s UNSATISFIABLE; echo said >&2; exit {status}", tmp_path, "lrupd")
         done = recheck._replace(lrupd="./lrupd")(["d", "formula"], cwd=tmp_path)
         assert done == Ran("s UNSATISFIABLE\n", "said\n", status)
 
@@ -524,7 +522,7 @@ def test_another_lrupd(recheck: Recheck, tmp_path: Path) -> None:
 def test_status_0_is_no_verdict(recheck: Recheck, body: str, out: str, tmp_path: Path) -> None:
     """It has to come with the verdict of lrupd. Nothing is removed."""
     lay(tmp_path, others={"d/round-2.cnf": OTHER})
-    written(f"#!/bin/sh\n{body}\n", tmp_path, "lrupd").chmod(0o755)
+    executable(body, tmp_path, "lrupd")
     done = recheck._replace(lrupd="./lrupd")(["d", "formula"], cwd=tmp_path)
     said = "lrup-recheck: ./lrupd ended with status 0, but without the verdict of lrupd\n"
     assert done == Ran(out, said, 1)

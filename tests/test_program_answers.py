@@ -11,8 +11,8 @@ from typing import Any, Dict, Iterator, List, Tuple
 
 import pytest
 
-from harness import (FOUR, ROOT, SMALL_ROW, Pieces, Wanted, answered, answers, example, report,
-                     runs, small, started, written)
+from harness import (FOUR, ROOT, SMALL_ROW, VERSION, Pieces, Wanted, answered, answers, example,
+                     report, runs, small, started, written)
 
 sys.path.append(str(ROOT / "gate"))
 import interface
@@ -173,8 +173,7 @@ def test_refused_files() -> Iterator[Named]:
 
 
 def test_version(program: str, tmp_path: Path) -> None:
-    said = f"lrupd {(ROOT / 'VERSION').read_text().strip()}\n"
-    answers(program, Wanted(["--version"], 2, err=said), tmp_path)
+    answers(program, Wanted(["--version"], 2, err=f"lrupd {VERSION}\n"), tmp_path)
 
 
 @runs

@@ -24,8 +24,8 @@ from typing import Callable, Dict, List, NamedTuple, Optional, Sequence, Tuple
 
 import pytest
 
-from harness import (COMPRESSED, EXAMPLES, FILTER, FOUR, GENERATOR, ROOT, SANITIZE, SANITIZING,
-                     TRIM, VERDICTS, Ran, dimacs, example, generated, lacking, named, piped,
+from harness import (COMPRESSED, EXAMPLES, FILTER, FOUR, GENERATOR, SANITIZE, SANITIZING, TRIM,
+                     VERDICTS, VERSION, Ran, dimacs, example, generated, lacking, named, piped,
                      random_clauses, run, sanitized_trim, sanitizer, within, written)
 from faulty import garbled_text, refuted, solved
 from lrat import lrat_fault
@@ -632,8 +632,7 @@ def test_help(word: str, tmp_path: Path) -> None:
 
 
 def test_version() -> None:
-    version = (ROOT / "VERSION").read_text().strip()
-    assert run([TRIM, "--version"]) == Ran(f"lrup-trim {version}\n", "", 0)
+    assert run([TRIM, "--version"]) == Ran(f"lrup-trim {VERSION}\n", "", 0)
 
 
 # Records of lrup-solve.

@@ -19,7 +19,7 @@ from typing import List, NamedTuple
 
 import pytest
 
-from harness import (FOUR, PROGRAM, ROOT, VERDICTS, Ran, example, feed, generated, named, needs,
+from harness import (FOUR, PROGRAM, VERDICTS, VERSION, Ran, example, feed, generated, named, needs,
                      piped, run, started, until, written)
 from lrat import lrat_fault
 from proof_forms import read_formula
@@ -350,7 +350,7 @@ def test_help() -> None:
 
 def test_version() -> None:
     answer = check(["--version"])
-    assert answer.out == f"lrup-check {(ROOT / 'VERSION').read_text()}"
+    assert answer.out == f"lrup-check {VERSION}\n"
     assert (answer.said, answer.status) == ("", 2)
 
 

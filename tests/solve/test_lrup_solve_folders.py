@@ -10,7 +10,8 @@ from typing import List
 
 import pytest
 
-from harness import FOUR, PROGRAM, by_another, example, generated, run, started, until, written
+from harness import (FOUR, PROGRAM, by_another, example, executable, generated, run, started, until,
+                     written)
 from solving import (MODELS, SOLVE, Answer, before_lrupd, children_of, command, solve,
                      want_answer)
 
@@ -102,8 +103,7 @@ def test_tools_in_the_current_folder(how: str, tmp_path: Path) -> None:
     """A tool in the current folder isn't run, even if the PATH has that folder, or if the program's
     own path is too long and therefore unknown."""
     for name in ("lrup-trim", "lrup-explain", "lrup-model", "lrupd", "-mpi"):
-        written(f"#!/bin/sh\n{f': > {tmp_path}/ran' * (name != 'lrupd')}\nexit 3\n", tmp_path,
-                name).chmod(0o755)
+        executable(f"{f': > {tmp_path}/ran' * (name != 'lrupd')}\nexit 3", tmp_path, name)
     (tmp_path / "bin").mkdir()
     for path in (SOLVE, SOLVE.with_name("lrup-engines"), MODELS / "lrup-model"):
         shutil.copy(path, tmp_path / "bin")

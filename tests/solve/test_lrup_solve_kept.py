@@ -18,8 +18,8 @@ from typing import Any, Dict, List, Mapping, NamedTuple, Optional, Sequence, Tup
 import pytest
 
 from harness import (EXPLAIN, FILTER, FOUR, LRUP_RECHECK, NONE_BAD, PACKERS, PROGRAM, ROOT, TRIM,
-                     Ran, by_another, example, generated, named, needs, pack, run, started, until,
-                     written)
+                     VERSION, Ran, by_another, example, executable, generated, named, needs, pack,
+                     run, started, until, written)
 from lrat import lrat_fault
 from proof_forms import Clause, read_formula
 from records import only_with
@@ -196,7 +196,7 @@ def programs_beside(tools: Mapping[str, str], work: Path) -> Path:
     for path in (SOLVE, SOLVE.with_name("lrup-engines"), MODELS / "lrup-model"):
         shutil.copy(path, work / "bin")
     for name, body in tools.items():
-        written(f"#!/bin/sh\n{body}\n", work, f"bin/{name}").chmod(0o755)
+        executable(body, work, f"bin/{name}")
     return work / "bin" / "lrup-solve"
 
 
@@ -581,8 +581,7 @@ def test_the_fields_of_about(engines: int, is_piped: bool, tested: Hooks, tmp_pa
     assert fields["words"].endswith("--proofs d" if is_piped else f"--proofs d '{formula}'")
     assert fields["folder"] == str(tmp_path)
     assert fields["verdict"] == PROVED
-    version = (ROOT / "VERSION").read_text().strip()
-    assert fields["programs"].startswith(f"lrupd {version}; lrup-solve {version}, with CaDiCaL ")
+    assert fields["programs"].startswith(f"lrupd {VERSION}; lrup-solve {VERSION}, with CaDiCaL ")
     assert f"`{fields['kit']}`" in (ROOT / "README.md").read_text()
     assert fields["record"].split(" round")[0] == str(number_of_rounds(tmp_path / "d"))
 
@@ -796,7 +795,7 @@ def test_no_shell_runs_a_part_of_a_name(names: Tuple[str, str], assumes: bool, t
     """Neither in the record's command, nor in the output of -v, nor in a solver's command. A
     program with such a name would leave a mark."""
     mark, programs = tmp_path / "mark", tmp_path / "programs"
-    written("#!/bin/sh\n: > \"$MARK\"\n", programs, "ran").chmod(0o755)
+    executable(": > \"$MARK\"", programs, "ran")
     more = {"MARK": str(mark), "PATH": f"{programs}:{os.environ['PATH']}"}
     folder = tmp_path / names[0]
     formula = written(example("bmc.cnf").read_text(), folder, names[0])

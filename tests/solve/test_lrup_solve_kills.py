@@ -17,8 +17,8 @@ from typing import Callable, Mapping, Optional, Sequence, Tuple
 import pytest
 
 from hard_formulas import miter, parity
-from harness import (LIMIT, Ran, dimacs, example, generated, named, random_clauses, started, until,
-                     written)
+from harness import (LIMIT, Ran, dimacs, example, executable, generated, named, random_clauses,
+                     started, until, written)
 from records import saved_rounds, want_no_other, way_on
 from solving import (EARLY, FRONT, READING, Answer, before_lrupd, check_again, command,
                      engines_refusing, in_environment, is_alive, marked, none_left, of_process,
@@ -284,8 +284,7 @@ def test_signals_during_a_save_that_hangs(tmp_path: Path) -> None:
 def test_an_unpacker_ends_with_the_front(monkeypatch: pytest.MonkeyPatch, tmp_path: Path) -> None:
     """The program that unpacks the formula hangs, so a closed pipe doesn't end it."""
     mark, begun = marked(tmp_path), tmp_path / "begun"
-    unpacker = written(f"#!/bin/sh\ntouch {begun}\nexec sleep 1000\n", tmp_path, "zstd")
-    unpacker.chmod(0o755)
+    executable(f"touch {begun}\nexec sleep 1000", tmp_path, "zstd")
     monkeypatch.setenv("PATH", str(tmp_path), prepend=":")
     with started(command([written("", tmp_path, "formula.cnf.zst")]),
                  stdout=subprocess.DEVNULL, stderr=subprocess.DEVNULL) as running:

@@ -10,15 +10,14 @@ import re
 import shlex
 import shutil
 import signal
-import stat
 import subprocess
 from pathlib import Path
 from typing import Dict, List, Optional, Sequence
 
 import pytest
 
-from harness import (EXPLAIN, LIMIT, LRUP_RECHECK, NONE_BAD, PROGRAM, Ran, generated, needs, pack,
-                     run, started, until, written)
+from harness import (EXPLAIN, LIMIT, LRUP_RECHECK, NONE_BAD, PROGRAM, Ran, executable, generated,
+                     needs, pack, run, started, until)
 from records import (checkpoints, killed_once, only_with, recorded, saved_rounds, way_on,
                      whole)
 from solving import (Answer, children_of, command, in_environment, is_alive, listed, none_left,
@@ -76,9 +75,7 @@ def unpacked(path: Path) -> bytes:
 def with_zstd(body: str, work: Path) -> Dict[str, str]:
     """An environment in which zstd does this first if it packs."""
     own = shlex.quote(str(shutil.which("zstd")))
-    path = written(f"#!/bin/sh\ncase $1 in -1*) {body};; esac\nexec {own} \"$@\"\n", work,
-                   "bin/zstd")
-    path.chmod(path.stat().st_mode | stat.S_IXUSR)
+    path = executable(f"case $1 in -1*) {body};; esac\nexec {own} \"$@\"", work, "bin/zstd")
     return {"PATH": f"{path.parent}:{os.environ['PATH']}"}
 
 

@@ -16,8 +16,8 @@ from typing import Dict, List, Mapping, Sequence, Tuple
 
 import pytest
 
-from harness import (FOUR, LIMIT, PROGRAM, SOLVER, SUPPORT, compiled, dimacs, example, generated,
-                     named, needs, run, started, until, written)
+from harness import (FOUR, LIMIT, PROGRAM, SOLVER, SUPPORT, compiled, dimacs, example, executable,
+                     generated, named, needs, run, started, until, written)
 from lrat import lrat_fault
 from proof_forms import read_formula
 from solving import (SOLVE, Answer, check_again, children_of, in_environment, marked, none_left,
@@ -376,9 +376,8 @@ def test_a_group_is_signalled_in_time(tmp_path: Path) -> None:
     mark = tmp_path / "mark"
     shim = compiled(tmp_path / "late.so", [SUPPORT / "signal_late.c"], "-std=gnu11", "-O2",
                     "-shared", "-fPIC")
-    engines = written(f"#!/bin/sh\nexport LD_PRELOAD={shim} MARK={mark}\n"
-                      f"exec {SOLVE.with_name('lrup-engines')} \"$@\"\n", tmp_path, "engines")
-    engines.chmod(0o755)
+    engines = executable(f"export LD_PRELOAD={shim} MARK={mark}\n"
+                         f"exec {SOLVE.with_name('lrup-engines')} \"$@\"", tmp_path, "engines")
     solver = "sleep 0.1; exit 0 # %formula %proof"
     answer = solve(["--engines", engines, "--solver", solver, example("bmc.cnf")])
     assert answer.answers == ["s UNKNOWN"]
@@ -526,9 +525,7 @@ sys.exit(20)
 def slow(work: Path, pause: float) -> str:
     """A solver that writes CaDiCaL's proof in pieces, with a pause in the middle."""
     needs("cadical")
-    program = written(SLOW, work, "slow")
-    program.chmod(0o755)
-    return f"{program} %formula %proof {pause}"
+    return f"{executable(SLOW, work, 'slow')} %formula %proof {pause}"
 
 
 def test_rounds_end_early(tmp_path: Path) -> None:

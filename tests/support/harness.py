@@ -41,6 +41,7 @@ TRIM, EXPLAIN = BIN / "lrup-trim", BIN / "lrup-explain"
 SANITIZED = BUILDS / "lrup-exact-sanitized"
 SANITIZED_TRIM = BUILDS / "lrup-trim-sanitized"
 SANITIZED_EXPLAIN = BUILDS / "lrup-explain-sanitized"
+VERSION = (ROOT / "VERSION").read_text().strip()
 USUAL_FLAGS = "-O2"
 # The options of conftest.py, and lrup-model, which is beside PROGRAM. COUNT is the number of random
 # rows; each file has its own default.
@@ -177,6 +178,13 @@ def written(text: Union[str, bytes], folder: Path, name: str = "formula.cnf") ->
     path = folder / name
     path.parent.mkdir(exist_ok=True)
     path.write_bytes(text.encode() if isinstance(text, str) else text)
+    return path
+
+
+def executable(text: str, folder: Path, name: str) -> Path:
+    """A program with this text, which is in shell unless it says otherwise."""
+    path = written(text if text.startswith("#!") else f"#!/bin/sh\n{text}\n", folder, name)
+    path.chmod(0o755)
     return path
 
 

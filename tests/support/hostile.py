@@ -3,13 +3,12 @@
 A program is Python: a common beginning, and a body."""
 import gzip
 import os
-import stat
 import subprocess
 import sys
 from pathlib import Path
 from typing import Optional, Sequence
 
-from harness import PROGRAM, run, written
+from harness import PROGRAM, executable, run, written
 from proof_forms import read_formula
 from solving import SOLVE, Answer, end_all, marked, none_left
 
@@ -127,9 +126,7 @@ def everywhere(data):
 
 
 def program(body: str, work: Path) -> Path:
-    path = written(BEGINS + body + "\n", work, "engines")
-    path.chmod(path.stat().st_mode | stat.S_IXUSR)
-    return path
+    return executable(f"{BEGINS}{body}\n", work, "engines")
 
 
 def run_with(body: str, words: Sequence[object], text: str, work: Path, lrupd: object = PROGRAM,

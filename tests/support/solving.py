@@ -9,14 +9,14 @@ import re
 import shlex
 import shutil
 import signal
-import stat
 import subprocess
 import time
 from pathlib import Path
 from typing import Any, Callable, Dict, List, Mapping, Optional, Sequence, Tuple
 
-from harness import (BUILDS, FLAGS, MODEL, OUT, PROGRAM, ROOT, USUAL_FLAGS, VERDICTS, Ran, alone,
-                     dimacs, is_newer, lacking, random_clauses, run, until, written)
+from harness import (BUILDS, FLAGS, LIMIT, MODEL, OUT, PROGRAM, ROOT, USUAL_FLAGS, VERDICTS, Ran,
+                     alone, dimacs, executable, is_newer, lacking, random_clauses, run, started,
+                     until)
 from proof_forms import read_formula
 from refused import refusing
 
@@ -159,16 +159,12 @@ def rests_on(rule: str, found: str, most: int, formula: Callable[[int], Path],
 
 
 def in_place_of_lrupd(body: str, work: Path) -> Path:
-    path = written(f"#!/bin/sh\n{body}\n", work, "lrupd")
-    path.chmod(path.stat().st_mode | stat.S_IXUSR)
-    return path
+    return executable(body, work, "lrupd")
 
 
 def with_model(body: str, front: Path, work: Path) -> Path:
     """A copy of the front, with this program beside it in place of lrup-model."""
-    place = written(f"#!/bin/sh\n{body}\n", work / "beside", "lrup-model")
-    place.chmod(place.stat().st_mode | stat.S_IXUSR)
-    return Path(shutil.copy(front, place.parent))
+    return Path(shutil.copy(front, executable(body, work / "beside", "lrup-model").parent))
 
 
 def before_lrupd(what: str, work: Path) -> Path:
@@ -182,10 +178,8 @@ def engines_refusing(refused: str, work: Path) -> Tuple[Path, Path]:
     """lrup-engines, built for tests, in which a call is refused or late, as refuse.c describes it;
     each process counts its own calls. Also the file that exists from then on."""
     mark = work / "refused"
-    engines = written(f"#!/bin/sh\nexport LD_PRELOAD={refusing()} REFUSE={refused} MARK={mark}\n"
-                      f"exec {TESTED.with_name('lrup-engines')} \"$@\"\n", work, "engines")
-    engines.chmod(0o755)
-    return engines, mark
+    return executable(f"export LD_PRELOAD={refusing()} REFUSE={refused} MARK={mark}\n"
+                      f"exec {TESTED.with_name('lrup-engines')} \"$@\"", work, "engines"), mark
 
 
 # Processes.
