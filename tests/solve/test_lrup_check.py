@@ -414,8 +414,8 @@ def test_a_proof_at_a_terminal(name: str, shown: str, tmp_path: Path) -> None:
     finally:
         os.close(leader)
         os.close(terminal)
-    assert (answer.out, answer.status) == ("", 1)
-    assert answer.said == f"lrup-check: {shown} is a terminal: name a file, or use a pipe\n"
+    said = f"lrup-check: {shown} is a terminal: name a file, or use a pipe\n"
+    assert answer.ran == Ran("", said, 1)
 
 
 @pytest.mark.parametrize("number", [signal.SIGTERM, signal.SIGINT, signal.SIGHUP, signal.SIGKILL],

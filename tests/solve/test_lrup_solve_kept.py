@@ -184,8 +184,7 @@ def test_outputs_that_cannot_be_written(words: str, said: str, formula: Path,
     lrupd = before_lrupd(f"touch {tmp_path}/began", tmp_path / "folder")
     before = sorted(os.listdir(tmp_path))
     answer = solve(["--lrupd", lrupd, *words.split(), formula], cwd=tmp_path)
-    assert (answer.out, answer.status) == ("", 1)
-    assert answer.said == f"lrup-solve: cannot write {said}\n"
+    assert answer.ran == Ran("", f"lrup-solve: cannot write {said}\n", 1)
     assert sorted(os.listdir(tmp_path)) == before
 
 
