@@ -178,7 +178,7 @@ def test_not_compressed(program: str, tool: Path, ending: str, tmp_path: Path) -
     assert done.err.splitlines()[-1] == said
 
 
-@pytest.mark.parametrize("tool", [FILTER, CHECK], ids=NAME)
+@pytest.mark.parametrize("tool", [FILTER, TRIM, EXPLAIN, CHECK], ids=NAME)
 def test_without_the_unpacking_program(program: str, tool: Path, ending: str,
                                        tmp_path: Path) -> None:
     formula, stream = copied(tmp_path)

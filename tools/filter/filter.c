@@ -54,8 +54,7 @@ void filter_open(Filter *filter, bool frat) {
     literals->length = 0;
     filter->originals = formula->clauses;
     if (frat) clauses_keep_sets(&filter->clauses);
-    formula->starts.items = grow(formula->starts.items, 0);
-    formula->literals.items = grow(formula->literals.items, 0);
+    formula_free(formula);
 }
 
 // Names delete clauses without unlinking them from the sets, so that only FRAT begins with sets.
@@ -79,9 +78,8 @@ static bool mark_literals(Filter *filter, const int64_t *numbers, size_t length,
     Literals *literals = &filter->literals;
     *tautology = false;
     for (size_t k = 0; k < length; k++) {
-        int64_t number = numbers[k];
-        if (number > variables || number < -variables) return false;
-        Literal literal = number > 0 ? 2 * ((Literal)number - 1) : 2 * (-(Literal)number - 1) + 1;
+        if (numbers[k] > variables || numbers[k] < -variables) return false;
+        Literal literal = literal_of(numbers[k]);
         if (marks[literal] != OPEN) continue;
         marks[literal] = TOUCHED;
         *tautology |= marks[complement_of(literal)] != OPEN;
@@ -424,11 +422,8 @@ static bool same_literals(const Filter *filter, const Clause *clause) {
 static void write_import(uint64_t identity, const int64_t *literals, size_t length) {
     write_number(identity, ' ');
     write_bytes("i ", 2);
-    for (size_t k = 0; k < length; k++) {
-        if (literals[k] < 0) write_bytes("-", 1);
-        write_number((uint64_t)(literals[k] < 0 ? -literals[k] : literals[k]), ' ');
-    }
-    write_bytes("0\n", 2);
+    write_written(literals, length);
+    write_bytes("\n", 1);
 }
 
 // From now on, steps may use the clause.
@@ -522,13 +517,7 @@ static void delete (Filter *filter, ClauseRef ref) {
 }
 
 void filter_write_deletion(Filter *filter) {
-    for (size_t start = 0; start < filter->chain.length; start += IDENTITIES_OF_A_LINE) {
-        size_t left = filter->chain.length - start;
-        write_number(filter->last ? filter->last : 1, ' ');
-        write_bytes("d ", 2);
-        write_numbers(filter->chain.items + start,
-                      left < IDENTITIES_OF_A_LINE ? left : IDENTITIES_OF_A_LINE);
-    }
+    write_deletion(filter->last ? filter->last : 1, &filter->chain);
     give_back(filter);
 }
 

@@ -91,10 +91,6 @@ typedef struct {
     Reading line;          // a copy, if it is bad
 } Replay;
 
-static inline Literal literal_of(int64_t written) {
-    return (Literal)(written > 0 ? 2 * (written - 1) : 2 * (-written - 1) + 1);
-}
-
 // judge.c
 Stream *owner_of(const Replay *replay, uint64_t identity);  // above the formula's
 Known *known_of(const Replay *replay, uint64_t identity);   // above the formula's, up to the last
@@ -112,6 +108,8 @@ Literal unit_of(const Replay *replay, ClauseRef ref);              // or CONFLIC
 Fault judge(Replay *replay, Stream *stream, const Reading *line);  // call forget_values after it
 // whether the hints of the bad addition are exact in the reverse order
 bool is_right_reversed(const Replay *replay, const Stream *stream);
+// how many literals of the trail come from the new clause, of which each is false at first
+size_t false_at_first(const Replay *replay);
 void forget_values(Replay *replay);
 
 // replay.c

@@ -63,14 +63,6 @@ void tell_list(const int64_t *numbers, size_t count) {
 
 // The line itself.
 
-static size_t false_at_first(const Replay *replay) {
-    size_t count = 0;
-    while (count < replay->trail.length &&
-           replay->reasons[variable_of(replay->trail.items[count])] == 0)
-        count++;
-    return count;
-}
-
 static void tell_derived(const Replay *replay, bool is_begun) {
     size_t count = false_at_first(replay);
     printf("  %s  ", replay->line.kind == 'i' ? "states " : "derives");
