@@ -14,7 +14,7 @@ from typing import Any, Callable, Dict, List, NamedTuple, Optional, Tuple
 
 import pytest
 
-from harness import EXAMPLES, Ran, lacking, needs, run, written
+from harness import EXAMPLES, Ran, lacking, needs, output_of, run, written
 
 SMT, LEMMA = EXAMPLES / "smt" / "smt2cnf.py", EXAMPLES / "lemma" / "lemma.py"
 BMC, MITER = EXAMPLES / "fifo" / "bmc.sh", EXAMPLES / "miter" / "miter.sh"
@@ -30,11 +30,9 @@ def shown(formula: Path) -> Optional[Dict[str, str]]:
     assert done.status in (10, 20), done
     if done.status == 20:
         return None
-    done = run([SHOW, formula, written(done.out, formula.parent, "answer")])
-    assert (done.err, done.status) == ("", 0)
-    found = dict(re.fullmatch(r"(\S+) = \d+'b([01]+)", line).groups()   # type: ignore
-                 for line in done.out.splitlines())
-    return found
+    shown = output_of(run([SHOW, formula, written(done.out, formula.parent, "answer")]))
+    return dict(re.fullmatch(r"(\S+) = \d+'b([01]+)", line).groups()   # type: ignore
+                for line in shown.splitlines())
 
 
 # Problems in SMT-LIB, with words of up to eight bits.
@@ -493,10 +491,9 @@ def test_a_core_has_no_tied_wires(tmp_path: Path) -> None:
     assert [line for line in lines if line[0] not in "cp" and str(tied) in
             line.replace("-", "").split()[:-1]] == [f"-{tied} 0\n"]
     core = written("".join(line for line in lines if line != f"-{tied} 0\n"), tmp_path, "core")
-    done = run([SHOW, formula, core])
-    assert (done.err, done.status) == ("", 0)
-    assert {"count@2", "less@1"} <= set(done.out.split())
-    assert not {name.partition("@")[0] for name in done.out.split()} & {"zero", "one"}
+    shown = output_of(run([SHOW, formula, core])).split()
+    assert {"count@2", "less@1"} <= set(shown)
+    assert not {name.partition("@")[0] for name in shown} & {"zero", "one"}
 
 
 def test_a_formula_on_standard_output(tmp_path: Path) -> None:

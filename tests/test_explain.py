@@ -23,7 +23,7 @@ import pytest
 
 from faulty import garbled_text, refuted
 from harness import (COMPRESSED, EXAMPLES, EXPLAIN, FOUR, NONE_BAD, ROOT, SANITIZING, VERSION, Ran,
-                     compiler, enough_for, example, generated, named, piped, run,
+                     compiler, enough_for, example, generated, named, output_of, piped, run,
                      sanitized_explain, written)
 from mutations import Mutant
 from rewriting import cut_while_read, withstands
@@ -874,9 +874,7 @@ def test_compressed(unpacker: str, tmp_path: Path) -> None:
 
 @pytest.mark.parametrize("word", ["--help", "-h"])
 def test_help(word: str, tmp_path: Path) -> None:
-    done = explain([word], tmp_path)
-    assert done.out.startswith("usage: lrup-explain ")
-    assert (done.err, done.status) == ("", 0)
+    assert output_of(explain([word], tmp_path)).startswith("usage: lrup-explain ")
 
 
 def test_version() -> None:

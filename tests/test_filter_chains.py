@@ -20,8 +20,8 @@ from typing import Iterable, List, Sequence, Tuple, Union
 import pytest
 
 from harness import (BUILDS, FILTER, PROGRAM, PROOFS, ROOT, SANITIZING, Ran, dimacs, enough_for,
-                     example, for_tests, generated, needs, random_clauses, run, sources_of, started,
-                     unwatched, watched_ends, written)
+                     example, for_tests, generated, needs, output_of, random_clauses, run,
+                     sources_of, started, unwatched, watched_ends, written)
 from lrat import lrat_fault
 from proof_forms import FORMS, read_formula, read_steps
 from solving import solve, want_answer
@@ -69,9 +69,7 @@ def check(formula: Path, text: str, work: Path, stream: int = 1, streams: int = 
 
 
 def filtered(words: Sequence[object], given: Text, program: Path = FILTER) -> str:
-    text, said, status = run([program, *words], given, env={**os.environ, **SANITIZING})
-    assert (said, status) == ("", 0)
-    return text
+    return output_of(run([program, *words], given, env={**os.environ, **SANITIZING}))
 
 
 def want_linear(text: str, formula: Path, proof_lines: int, steps: int) -> None:

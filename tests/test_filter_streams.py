@@ -16,8 +16,8 @@ from typing import Any, Callable, Dict, Iterable, List, Tuple
 import pytest
 
 from filtering import FIRST, ONE_OF_TWO, Text, at_place, check, check_report, exact, sorted_hints
-from harness import (FILTER, FOUR, LIMIT, PROOFS, Ran, example, generated, read_line, run, started,
-                     written)
+from harness import (FILTER, FOUR, LIMIT, PROOFS, Ran, example, generated, output_of, read_line,
+                     run, started, written)
 from lrat import lrat_fault
 from proof_forms import FORMS, Step, code, codes, drat, read_formula, read_steps, varint
 
@@ -138,8 +138,7 @@ def proved(request: pytest.FixtureRequest, tmp_path: Path) -> Tuple[Path, Path]:
 def test_without_hints(program: str, proved: Tuple[Path, Path], stream: int, count: int,
                        tmp_path: Path) -> None:
     formula, proof = proved
-    text, said, status = exact(["--stream", str(stream), "--streams", str(count), formula, proof])
-    assert (said, status) == ("", 0)
+    text = output_of(exact(["--stream", str(stream), "--streams", str(count), formula, proof]))
     added = sum(not line.startswith("d") for line in proof.read_text().splitlines())
     check(program, formula, at_place((written(text, tmp_path, "exact"), added), stream, count))
 
@@ -147,10 +146,9 @@ def test_without_hints(program: str, proved: Tuple[Path, Path], stream: int, cou
 def test_as_lrat(proved: Tuple[Path, Path]) -> None:
     """An LRAT checker accepts the output for a single proof, and finds faults in changed output."""
     formula, proof = proved
-    text, said, status = exact([formula, proof])
+    text = output_of(exact([formula, proof]))
     clauses, lines = read_formula(formula), text.splitlines(True)
     assert lrat_fault(clauses, text) == ""
-    assert (said, status) == ("", 0)
     *others, last = lines
     first = next(number for number, line in enumerate(lines, 1) if " d " not in line)
     head, _, hints = lines[first - 1].rpartition(" 0 ")
@@ -217,9 +215,8 @@ def test_the_longest_chain(program: str, tmp_path: Path) -> None:
     formula = written("\n".join([f"p cnf {last} {count}", *clauses, ""]), tmp_path)
     hints = " ".join(map(str, range(1, count + 1)))
     for proof in (f"{count + 1} 0 {hints} 0\n", f"{count + 1} 0 0\n"):
-        text, said, status = exact([formula], proof)
+        text = output_of(exact([formula], proof))
         assert len(text.split()) == count + 3
-        assert (said, status) == ("", 0)
         check_report(program, formula, text, "1 added, 0 deleted, ended", tmp_path)
 
 
@@ -229,9 +226,8 @@ def test_many_deletions(program: str, count: int, tmp_path: Path) -> None:
     formula = written(f"p cnf 2 {count + 4}\n" + "1 2 0\n" * count + FOUR.split("\n", 1)[1],
                       tmp_path)
     identities = " ".join(map(str, range(1, count + 1)))
-    text, said, status = exact(
-        [formula], f"{count + 5} d {identities} 0\n{count + 5} 2 0 {count + 1} {count + 2} 0\n")
-    assert (said, status) == ("", 0)
+    text = output_of(exact([formula], f"{count + 5} d {identities} 0\n"
+                                      f"{count + 5} 2 0 {count + 1} {count + 2} 0\n"))
     assert max(len(line.split()) for line in text.splitlines()) <= 65536 + 3
     check_report(program, formula, text, f"1 added, {count} deleted, ended", tmp_path)
 

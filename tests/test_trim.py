@@ -25,8 +25,8 @@ from typing import Callable, Dict, List, NamedTuple, Optional, Sequence, Tuple
 import pytest
 
 from harness import (COMPRESSED, EXAMPLES, FILTER, FOUR, GENERATOR, SANITIZE, SANITIZING, TRIM,
-                     VERDICTS, VERSION, Ran, dimacs, example, generated, lacking, named, piped,
-                     random_clauses, run, sanitized_trim, sanitizer, within, written)
+                     VERDICTS, VERSION, Ran, dimacs, example, generated, lacking, named, output_of,
+                     piped, random_clauses, run, sanitized_trim, sanitizer, within, written)
 from faulty import garbled_text, refuted, solved
 from lrat import lrat_fault
 from proof_forms import Clause, Step, read_formula, read_steps
@@ -133,11 +133,10 @@ def trimmed(program: str, tmp_path: Path) -> Trimmed:
     def trimmed(formula: Path, proof: Sequence[Path], assumptions: Optional[Path] = None,
                 rehints: bool = False) -> str:
         words = [*(["--assume", assumptions] if assumptions else []), *["--re-hint"] * rehints]
-        done = trim([*outputs_of(tmp_path), *words, formula, *proof], tmp_path)
-        assert (done.err, done.status) == ("", 0)
+        out = output_of(trim([*outputs_of(tmp_path), *words, formula, *proof], tmp_path))
         assert not (tmp_path / "lrat.re-hint").exists()
-        want_right(program, formula, done.out, tmp_path, 8 if assumptions else 0)
-        return done.out
+        want_right(program, formula, out, tmp_path, 8 if assumptions else 0)
+        return out
     return trimmed
 
 
@@ -200,10 +199,9 @@ def test_a_large_output_is_checked_in_rounds(program: str, trimmed: Trimmed, out
     os.symlink(example("bmc.cnf"), tmp_path / "bmc.cnf")
     command = (f'"$1" --rounds live --memory 48K {formula} {output} | {{ read ready && '
                f'"$2" --rounds live {formula} live/round-1.stream-1; }}')
-    done = run(["sh", "-c", command, "sh", FILTER, program], cwd=tmp_path)
-    assert (done.err, done.status) == ("", 0)
-    rounds = re.fullmatch(r"c round (\d+)\n.*\ns UNSATISFIABLE\n", done.out)
-    assert rounds, done.out
+    out = output_of(run(["sh", "-c", command, "sh", FILTER, program], cwd=tmp_path))
+    rounds = re.fullmatch(r"c round (\d+)\n.*\ns UNSATISFIABLE\n", out)
+    assert rounds, out
     assert int(rounds[1]) > 5
 
 
@@ -310,9 +308,8 @@ def test_fewer_streams(program: str, trimmed: Trimmed, tmp_path: Path) -> None:
     for name, text in files.items():
         written(text, tmp_path, f"d/{name}")
     formula = written(FOUR, tmp_path)
-    done = run([program, "--rounds", "d", formula, "d/round-1.stream-1", "d/round-1.stream-2"],
-               cwd=tmp_path)
-    assert (done.err, done.status) == ("", 0)
+    output_of(run([program, "--rounds", "d", formula, "d/round-1.stream-1", "d/round-1.stream-2"],
+                  cwd=tmp_path))
     trimmed(formula, [tmp_path / "d"])
     assert (tmp_path / "stream").read_text() == OF_FEWER
 
@@ -409,8 +406,7 @@ def test_garbled(program: str, seed: int, tmp_path: Path) -> None:
 def test_no_hints(program: str, tmp_path: Path) -> None:
     """A line that cites nothing is copied, but lrupd refuses it."""
     formula, stream = written(FOUR, tmp_path), written("5 0 0\n", tmp_path, "stream")
-    done = trim(["--lrat", "lrat", formula, stream], tmp_path)
-    assert (done.err, done.status) == ("", 0)
+    output_of(trim(["--lrat", "lrat", formula, stream], tmp_path))
     assert (tmp_path / "lrat").read_text() == "4 d 1 2 3 4 0\n5 0 0\n"
     assert run([program, formula, tmp_path / "lrat"]).status == 3
 
@@ -626,9 +622,7 @@ def test_a_limit_on_the_size_of_files(limit: int, options: Sequence[object],
 
 @pytest.mark.parametrize("word", ["--help", "-h"])
 def test_help(word: str, tmp_path: Path) -> None:
-    done = trim([word], tmp_path)
-    assert done.out.startswith("usage: lrup-trim ")
-    assert (done.err, done.status) == ("", 0)
+    assert output_of(trim([word], tmp_path)).startswith("usage: lrup-trim ")
 
 
 def test_version() -> None:

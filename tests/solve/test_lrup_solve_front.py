@@ -15,8 +15,8 @@ from typing import Iterator, List, Sequence
 
 import pytest
 
-from harness import (FOUR, LIMIT, PROGRAM, ROOT, VERSION, Ran, executable, named, run, started,
-                     until, written)
+from harness import (FOUR, LIMIT, PROGRAM, ROOT, VERSION, Ran, executable, named, output_of, run,
+                     started, until, written)
 from hostile import (AGAIN, FOUND, PROOF, PROVED, SATISFIABLE, UNDER, UNKNOWN, assert_answer,
                      is_model, printed, program, run_with)
 from solving import (SOLVE, Answer, before_lrupd, children_of, in_place_of_lrupd, marked, none_left,
@@ -668,12 +668,11 @@ def test_help_and_version(word: str, tmp_path: Path) -> None:
     formula = written(SATISFIABLE, tmp_path)
     for line in ([word, "--engines", engines, formula], ["--engines", engines, formula, word],
                  ["-q", "--engines", engines, word]):
-        done = run([SOLVE, *line])
-        assert (done.err, done.status) == ("", 0)
+        out = output_of(run([SOLVE, *line]))
         if word == "--version":
-            assert done.out == f"lrup-solve {VERSION}\n"
+            assert out == f"lrup-solve {VERSION}\n"
         else:
-            assert done.out.startswith("usage: lrup-solve ")
+            assert out.startswith("usage: lrup-solve ")
 
 
 def test_help_that_cannot_be_written() -> None:

@@ -14,8 +14,8 @@ from typing import Any, Callable, Dict, Iterator, List, Mapping, NamedTuple, Seq
 import pytest
 
 from harness import (COMPRESSED, FILTER, FOUR, LIMIT, MODEL, PROGRAM, SMALL_ROW, VERDICTS, Ran,
-                     compiled, example, generated, in_shell, named, piped, run, started, until,
-                     written)
+                     compiled, example, generated, in_shell, named, output_of, piped, run, started,
+                     until, written)
 from lrat import lrat_fault
 from proof_forms import read_formula
 from solving import (SOLVE, Answer, before_lrupd, check_again, command, end_of, in_place_of_lrupd,
@@ -593,10 +593,9 @@ def test_lrup_solve_accepts(text: Text, status: int, tmp_path: Path) -> None:
 def test_lrup_exact_and_lrupd_accept(text: Text, status: int, tmp_path: Path) -> None:
     """If the formula is unsatisfiable, the filter finds the empty clause by unit propagation."""
     formula, is_refuted = written(text, tmp_path), status == 20
-    exact = run([FILTER, "--format", "drat", formula], "0\n" * is_refuted)
-    assert (exact.err, exact.status) == ("", 0)
-    assert exact.out.count("\n") == is_refuted
-    done = run([PROGRAM, *SMALL_ROW, formula, written(exact.out, tmp_path, "stream")])
+    exact = output_of(run([FILTER, "--format", "drat", formula], "0\n" * is_refuted))
+    assert exact.count("\n") == is_refuted
+    done = run([PROGRAM, *SMALL_ROW, formula, written(exact, tmp_path, "stream")])
     assert (done.err, done.status) == ("", 0 if is_refuted else 3)
     assert done.out.splitlines()[-1] == VERDICTS[done.status]
 

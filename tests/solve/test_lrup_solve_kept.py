@@ -18,8 +18,8 @@ from typing import Any, Dict, List, Mapping, NamedTuple, Optional, Sequence, Tup
 import pytest
 
 from harness import (EXPLAIN, FILTER, FOUR, LRUP_RECHECK, NONE_BAD, PACKERS, PROGRAM, ROOT, TRIM,
-                     VERSION, Ran, by_another, example, executable, generated, named, needs, pack,
-                     run, started, until, written)
+                     VERSION, Ran, by_another, example, executable, generated, in_shell, named,
+                     needs, output_of, pack, run, started, until, written)
 from lrat import lrat_fault
 from proof_forms import Clause, read_formula
 from records import only_with
@@ -112,8 +112,7 @@ def test_the_printed_command_checks_the_lrat_text(words: str, options: List[obje
     printed, = [line.split(": lrupd ")[1] for line in answer.comments
                 if line.startswith("proof.lrat: ") and ": lrupd --" in line]
     done = run([PROGRAM, *shlex.split(printed)], cwd=tmp_path)
-    assert (done.err, done.status) == ("", 0)
-    assert done.out.splitlines()[-1] == PROVED
+    assert output_of(done).splitlines()[-1] == PROVED
 
 
 def test_outputs_for_standard_input(formula: Path) -> None:
@@ -679,8 +678,7 @@ def test_streams_are_unpacked_though_a_standard_stream_is_closed(
     pack(record / "round-1.stream-1", "xz")
     tools: List[List[object]] = [[TRIM, "--lrat", "lrat"], [EXPLAIN]]
     for words in tools:
-        done = run(["sh", "-c", f'exec "$@" {closing}', "sh", *words, formula, "d"], cwd=tmp_path)
-        assert (done.err, done.status) == ("", 0), words
+        output_of(in_shell(f'exec "$@" {closing}', "sh", *words, formula, "d", cwd=tmp_path))
     assert lrat_fault(read_formula(formula), (tmp_path / "lrat").read_text()) == ""
 
 
@@ -696,8 +694,7 @@ def test_two_checks_at_a_time(tmp_path: Path) -> None:
     check_again(record)
     done = by_another(["sh", "-c", "sh d/command > /dev/null & sh d/command && wait \"$!\""],
                       tmp_path)
-    assert (done.err, done.status) == ("", 0)
-    assert done.out.splitlines()[-1] == PROVED
+    assert output_of(done).splitlines()[-1] == PROVED
 
 
 @pytest.fixture

@@ -20,7 +20,7 @@ from typing import Dict, List, Mapping, Optional, Sequence, Set
 import pytest
 
 from harness import (FILTERS, FOUR, LIBRARY, ROOT, SUPPORT, Ran, compiled, dimacs, example,
-                     generated, lacking, named, random_clauses, run, until, written)
+                     generated, lacking, named, output_of, random_clauses, run, until, written)
 from lrat import lrat_fault
 from proof_forms import read_formula
 from records import recorded, saved_rounds, way_on, whole
@@ -98,9 +98,8 @@ def test_an_exchange_without_mpi(tmp_path: Path) -> None:
     includes = [f"-I{folder}" for folder in (tool, LIBRARY, FILTERS)]
     outbox = compiled(tmp_path / "outbox.o", [tool / "outbox.c"], "-std=c11", "-c", *includes)
     sources = [SUPPORT / "exchange.cpp", tool / "mpi" / "mpi_exchange.cpp", outbox]
-    done = run([*shlex.split(os.environ.get("CXX", "c++")), "-std=c++17", "-Wall", "-Wextra", "-o",
-                tmp_path / "exchange", *includes, *sources])
-    assert (done.err, done.status) == ("", 0)
+    output_of(run([*shlex.split(os.environ.get("CXX", "c++")), "-std=c++17", "-Wall", "-Wextra",
+                   "-o", tmp_path / "exchange", *includes, *sources]))
     assert run([tmp_path / "exchange"]) == Ran("", "", 0)
 
 
@@ -384,8 +383,7 @@ def test_words_that_are_refused(processes: int, words: List[str], said: str, bef
     ("--help", "usage: lrup-solve "), ("--version", "lrup-solve ")])
 def test_help_and_version(word: str, beginning: str) -> None:
     """The text is printed once."""
-    out, said, status = run(launched(3, [word]))
-    assert (said, status) == ("", 0)
+    out = output_of(run(launched(3, [word])))
     assert out.startswith(beginning)
     assert out.count(beginning) == 1
 

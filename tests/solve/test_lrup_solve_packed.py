@@ -17,7 +17,7 @@ from typing import Dict, List, Optional, Sequence
 import pytest
 
 from harness import (EXPLAIN, LRUP_RECHECK, NONE_BAD, PROGRAM, Ran, executable, generated, needs,
-                     pack, run, until)
+                     output_of, pack, run, until)
 from records import (checkpoints, killed_once, only_with, recorded, saved_rounds, way_on,
                      whole)
 from solving import (Answer, children_of, end_of, is_alive, listed, none_left, solve, started_run,
@@ -104,9 +104,8 @@ def want_proved(kept: Path, formula: Path, work: Path) -> None:
     want_tidy(kept)
     whole(kept, formula, work)
     assert run([EXPLAIN, formula, kept]) == Ran(f"{NONE_BAD}\n", "", 0)
-    done = run([LRUP_RECHECK, "--lrupd", PROGRAM, kept])
-    assert (done.err, done.status) == ("", 0)
-    assert done.out.splitlines()[-1] == "s UNSATISFIABLE"
+    checked = run([LRUP_RECHECK, "--lrupd", PROGRAM, kept])
+    assert output_of(checked).splitlines()[-1] == "s UNSATISFIABLE"
     about = (kept / "about").read_text().splitlines()
     assert (NOTE in about) == bool(packed(kept))
     for name in packed(kept):

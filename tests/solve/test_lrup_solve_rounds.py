@@ -20,7 +20,7 @@ from typing import Dict, List, Mapping, Sequence
 import pytest
 
 from harness import (LIMIT, LRUP_RECHECK, PROGRAM, Ran, dimacs, example, generated, link_over,
-                     named, random_clauses, run, until, written)
+                     named, output_of, random_clauses, run, until, written)
 from solving import (EARLY, Answer, Run, check_again, children_of, end_group, in_place_of_lrupd,
                      is_alive, kill_children, of_process, random_formula, rests_on, says, sleep,
                      solve, want_answer, want_cause)
@@ -69,9 +69,8 @@ def test_rounds(words: str, size: int, most: int, options: List[str], status: in
                  for name in ("sizes", "stream-1")]
         assert [name for name in names if not (kept / name).exists()] == []
         assert not (kept / f"round-{rounds + 1}.stream-1").exists()
-        found = run([LRUP_RECHECK, "--lrupd", PROGRAM, kept])
-        assert (found.err, found.status) == ("", 0)
-        assert found.out.split("\n", 1)[1] == (kept / "report").read_text()
+        found = output_of(run([LRUP_RECHECK, "--lrupd", PROGRAM, kept]))
+        assert found.split("\n", 1)[1] == (kept / "report").read_text()
 
 
 @each_number_of_engines

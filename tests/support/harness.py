@@ -108,6 +108,12 @@ def run(words: Words, given: Union[str, bytes, None] = None, limit: float = LIMI
     return Ran(text_of(done.stdout), text_of(done.stderr), done.returncode)
 
 
+def output_of(done: Ran) -> str:
+    """What the program printed. It had nothing to say on standard error, and ended with 0."""
+    assert (done.err, done.status) == ("", 0)
+    return done.out
+
+
 def in_shell(command: str, *words: object, **how: Any) -> Ran:
     return run(["sh", "-c", command, *words], **how)
 
@@ -191,8 +197,7 @@ def executable(text: str, folder: Path, name: str) -> Path:
 def pack(path: Path, ending: str) -> Path:
     """Puts the packed file, whose name has this ending, in the place of the plain one."""
     needs(PACKERS[ending])
-    done = run([PACKERS[ending], "-q", *["--rm"] * (ending == "zst"), path])
-    assert done.status == 0, done.err
+    output_of(run([PACKERS[ending], "-q", *["--rm"] * (ending == "zst"), path]))
     return path.with_name(f"{path.name}.{ending}")
 
 
@@ -267,9 +272,7 @@ def feed(path: Path, pieces: Pieces) -> threading.Thread:
 
 @functools.lru_cache(maxsize=None)
 def text_generated(words: str) -> str:
-    done = run([sys.executable, GENERATOR, *words.split()])
-    assert done.status == 0, done.err
-    return done.out
+    return output_of(run([sys.executable, GENERATOR, *words.split()]))
 
 
 def generated(words: str, folder: Path, name: str = "formula.cnf") -> Path:
