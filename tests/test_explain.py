@@ -24,7 +24,7 @@ import pytest
 from faulty import garbled_text, refuted
 from harness import (COMPRESSED, EXAMPLES, EXPLAIN, FOUR, NONE_BAD, ROOT, SANITIZING, VERSION, Ran,
                      compiler, enough_for, example, generated, named, output_of, piped, run,
-                     sanitized_explain, written)
+                     sanitized_explain, write_all, written)
 from mutations import Mutant
 from rewriting import cut_while_read, withstands
 
@@ -768,8 +768,7 @@ SAID_OF_CARRIED = (
 
 def test_carried_clauses(tmp_path: Path) -> None:
     """A clause that is carried over from the previous round is described by its origin."""
-    for name, text in CARRIED.items():
-        written(text, tmp_path, f"d/{name}")
+    write_all(CARRIED, tmp_path / "d")
     assert explain([written(FOUR, tmp_path), "d"], tmp_path) == Ran(SAID_OF_CARRIED, "", BAD)
 
 
@@ -854,8 +853,7 @@ def test_files_that_are_rewritten(seed: int, tmp_path: Path) -> None:
 def test_refused(words: str, status: int, said: str, tmp_path: Path) -> None:
     """Runs in a folder with a formula f, a stream s, a pipe p, a folder d without rounds, and a
     compressed formula z."""
-    for name, text in {"f": FOUR.encode(), "s": FIRST.encode(), "z": COMPRESSED["zcat"]}.items():
-        written(text, tmp_path, name)
+    write_all({"f": FOUR, "s": FIRST, "z": COMPRESSED["zcat"]}, tmp_path)
     piped(tmp_path / "p")
     (tmp_path / "d").mkdir()
     done = explain(words.split(), tmp_path)

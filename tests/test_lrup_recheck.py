@@ -22,7 +22,7 @@ import pytest
 
 from harness import (FOUR, LIMIT, LRUP_RECHECK, ROOT, SMALL_ROW, Ran, Wanted, answers, each_of,
                      executable, held, named, pack, piped, report, run, small, started, until,
-                     within, written)
+                     within, write_all, written)
 from rounds import ONE, fault, last, round_files, saved_name
 
 SHELLS = {"dash": ["dash"], "bash": ["bash"], "busybox": ["busybox", "sh"]}
@@ -62,8 +62,7 @@ def files(streams: Sequence[str], others: Mapping[str, str] = {}) -> Dict[str, s
 
 
 def lay(folder: Path, streams: Sequence[str] = ROUNDS, others: Mapping[str, str] = {}) -> None:
-    for name, text in files(streams, others).items():
-        written(text, folder, name)
+    write_all(files(streams, others), folder)
 
 
 def left(saved: Mapping[int, str] = {}) -> Dict[str, Optional[str]]:

@@ -12,7 +12,7 @@ from typing import Any, Dict, Iterator, List, Tuple
 import pytest
 
 from harness import (FOUR, ROOT, SMALL_ROW, VERSION, Pieces, Wanted, answered, answers, example,
-                     report, runs, small, started, written)
+                     report, runs, small, started, write_all)
 
 sys.path.append(str(ROOT / "gate"))
 import interface
@@ -338,9 +338,7 @@ def test_a_watched_line_is_one_write(program: str, way: List[str], words: str, l
                                      tmp_path: Path) -> None:
     """There is a line at the end of each stream in each round, and one at the start of each round
     but the first. A packet socket keeps writes apart."""
-    for name, text in {**FILES, "d/round-1.stream-1": ONE,
-                       "d/round-2.stream-1": "6 0 5 3 4 0\n"}.items():
-        written(text, tmp_path, name)
+    write_all({**FILES, "d/round-1.stream-1": ONE, "d/round-2.stream-1": "6 0 5 3 4 0\n"}, tmp_path)
     reader, writer = socket.socketpair(socket.AF_UNIX, socket.SOCK_SEQPACKET)
     command = [program, "--watch", *way, *SMALL_ROW, *words.split()]
     with reader, started(command, cwd=tmp_path, stdout=subprocess.DEVNULL, stderr=writer):

@@ -14,7 +14,8 @@ import pytest
 
 from checkpoints import printed
 from harness import (FOUR, LIMIT, SMALL_ROW, Pieces, Ran, Wanted, answered, dimacs, held, piped,
-                     read_from, run, runs_in_both_ways, small, started, until, waiting, written)
+                     read_from, run, runs_in_both_ways, small, started, until, waiting, write_all,
+                     written)
 from rounds import (ADDED, BAD, BAD_SAID, DERIVING, NOTHING, ONE, OTHER, REFUTING, SAVED, SAVED_ONE,
                     TRIES, TWO, Named, Proof, Texts, dropped_first, fault, first_words, last, plain,
                     round_files, rounds, saved_name, stream_name)
@@ -247,9 +248,7 @@ def test_pipes() -> Iterator[Named]:
 
 def lay(texts: Texts, folder: Path) -> None:
     """Puts the formula and the rounds' streams there."""
-    folder.mkdir(exist_ok=True)
-    for name, text in round_files(texts).items():
-        written(text, folder, name)
+    write_all(round_files(texts), folder)
 
 
 def test_a_checkpoint_is_whole_once_the_next_sizes_are_opened(program: str, way: List[str],

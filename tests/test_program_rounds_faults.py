@@ -10,7 +10,7 @@ import pytest
 
 from checkpoints import MOST_CLAUSES, most_clauses
 from harness import (FOUR, SMALL_ROW, Ran, Wanted, run, run_by_another, runs_in_both_ways, within,
-                     written)
+                     write_all, written)
 from rounds import (ADDED, BAD, BAD_SAID, NOTHING, ONE, OTHER, REFUTING, SAVED, SAVED_ONE, TRIES,
                     TWO, Named, dropped_first, fault, first_words, last, round_files, rounds,
                     saved_name, stream_name)
@@ -339,8 +339,7 @@ def test_a_disk_that_gets_full(program: str, way: List[str], assumed: bool, numb
     """Files are limited to the size of the formula; the checkpoint after this round is larger."""
     texts = ([[""]] * (number - 1)
              + [["".join(f"{identity} 2 0 1 2 0\n" for identity in range(5, 25))], [REFUTING]])
-    for name, text in {**round_files(texts), "cube": "-2 0\n"}.items():
-        written(text, tmp_path, name)
+    write_all({**round_files(texts), "cube": "-2 0\n"}, tmp_path)
     words = [*SMALL_ROW, *way, *["--assume", "cube"] * assumed, *first_words(texts)]
     found = run([program, *words], cwd=tmp_path, preexec_fn=lambda: within(len(FOUR)))
     out = last(number, ["20 added, 0 deleted, ended"], 8 if assumed else 3)
@@ -375,8 +374,7 @@ def test_a_clause_too_many(program: str, way: List[str], number: int, tmp_path: 
     more."""
     clauses = MOST_CLAUSES
     texts = [[""]] * (number - 1) + [[f"{clauses + 1} 1 0 1 0\n"], [BAD]]
-    for name, text in round_files(texts).items():
-        written(text, tmp_path, name)
+    write_all(round_files(texts), tmp_path)
     formula = most_clauses(tmp_path).read_bytes()
     found = run([program, *way, "--lines", "10", "--room", "10", *first_words(texts)],
                 cwd=tmp_path)

@@ -16,7 +16,7 @@ from typing import Iterator, List, Mapping, NamedTuple, Sequence, Tuple
 import pytest
 
 from harness import (EXAMPLES, EXPLAIN, FILTER, LRUP_RECHECK, ROOT, TRIM, Ran, generated, lacking,
-                     needs, output_of, run, written)
+                     needs, output_of, run, write_all, written)
 from solving import SOLVE
 
 LIMIT = 120  # seconds for a page
@@ -161,8 +161,7 @@ def test_usage(script: str, usage: str, words: Sequence[str], tmp_path: Path) ->
 def want_refused(script: str, words: Sequence[object], said: str, folder: Path,
                  given: bytes = b"", files: Mapping[str, str] = {}) -> None:
     """In a folder with these files, the script says this."""
-    for name, text in files.items():
-        written(text, folder, name)
+    write_all(files, folder)
     done = run([EXAMPLES / script, *words], given, cwd=folder)
     assert done == Ran("", f"{Path(script).name}: {said}\n", 1)
 

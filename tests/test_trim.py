@@ -26,7 +26,8 @@ import pytest
 
 from harness import (COMPRESSED, EXAMPLES, FILTER, FOUR, GENERATOR, SANITIZE, SANITIZING, TRIM,
                      VERDICTS, VERSION, Ran, dimacs, example, generated, lacking, named, output_of,
-                     piped, random_clauses, run, sanitized_trim, sanitizer, within, written)
+                     piped, random_clauses, run, sanitized_trim, sanitizer, within, write_all,
+                     written)
 from faulty import garbled_text, refuted, solved
 from lrat import lrat_fault
 from proof_forms import Clause, Step, read_formula, read_steps
@@ -293,8 +294,7 @@ def test_few_lines(trimmed: Trimmed, streams: Sequence[str], core: str, stream: 
 @pytest.mark.parametrize("proof, stream", [
     pytest.param(ONE, OF_ONE, id="one stream"), pytest.param(TWO, OF_TWO, id="two streams")])
 def test_few_lines_in_rounds(trimmed: Trimmed, proof: Proof, stream: str, tmp_path: Path) -> None:
-    for name, text in round_files(proof.texts).items():
-        written(text, tmp_path, name)
+    write_all(round_files(proof.texts), tmp_path)
     trimmed(tmp_path / "formula", [tmp_path / "d"])
     assert texts_of_outputs(tmp_path) == [CORE, stream, stream]
 
@@ -302,11 +302,9 @@ def test_few_lines_in_rounds(trimmed: Trimmed, proof: Proof, stream: str, tmp_pa
 def test_fewer_streams(program: str, trimmed: Trimmed, tmp_path: Path) -> None:
     """According to its sizes, round 2 has fewer streams; the file of another stream is ignored, and
     so is a file after the round with the empty clause."""
-    files = {"round-1.stream-1": "5 2 0 1 2 0\n5 d 1 0\n", "round-1.stream-2": "6 d 4 1 0\n",
-             "round-2.sizes": "1 9 9\n", "round-2.stream-1": "5 1 0 4 2 0\n6 0 5 4 3 0\n",
-             "round-2.stream-2": "x", "round-3.stream-1": "x"}
-    for name, text in files.items():
-        written(text, tmp_path, f"d/{name}")
+    write_all({"round-1.stream-1": "5 2 0 1 2 0\n5 d 1 0\n", "round-1.stream-2": "6 d 4 1 0\n",
+               "round-2.sizes": "1 9 9\n", "round-2.stream-1": "5 1 0 4 2 0\n6 0 5 4 3 0\n",
+               "round-2.stream-2": "x", "round-3.stream-1": "x"}, tmp_path / "d")
     formula = written(FOUR, tmp_path)
     output_of(run([program, "--rounds", "d", formula, "d/round-1.stream-1", "d/round-1.stream-2"],
                   cwd=tmp_path))
@@ -498,8 +496,7 @@ WRONG_SIZES = ["", "1 2", "1 2\n", "1 2 3 4\n", "0 2 3\n", "65 2 3\n", "x 2 3\n"
     *(pytest.param({**ROUND, "round-2.sizes": text}, "d/round-2.sizes: not STREAMS LINES ROOM",
                    id=f"sizes {text!r}") for text in WRONG_SIZES)])
 def test_bad_rounds(files: Dict[str, str], said: str, tmp_path: Path) -> None:
-    for name, text in files.items():
-        written(text, tmp_path, f"d/{name}")
+    write_all(files, tmp_path / "d")
     done = trim([written(FOUR, tmp_path), "d"], tmp_path)
     assert (done.out, done.status) == ("", 1)
     assert done.err.splitlines()[-1] == f"lrup-trim: {said}"
@@ -513,8 +510,7 @@ def test_bad_rounds(files: Dict[str, str], said: str, tmp_path: Path) -> None:
     pytest.param(lambda digest: "", False, id="none")])
 def test_digests(change: Callable[[str], str], is_right: bool, length: int, tmp_path: Path) -> None:
     """The formula is compared with the record's SHA-256; another formula is refused."""
-    for name, text in ROUND.items():
-        written(text, tmp_path, f"d/{name}")
+    write_all(ROUND, tmp_path / "d")
     formula = written("c" + "x" * (length - 2) + "\n" + FOUR, tmp_path)
     digest = hashlib.sha256(formula.read_bytes()).hexdigest()
     written(f"{change(digest)}  {formula}\n", tmp_path, "d/formula.sha256")
@@ -560,8 +556,7 @@ def test_refused(words: str, status: int, said: str, tmp_path: Path) -> None:
     there and r.re-hint, and a compressed file z."""
     files = {"f": FOUR.encode(), "s": FIRST.encode(), "there": b"mine", "r.re-hint": b"",
              "z": COMPRESSED["zcat"]}
-    for name, text in files.items():
-        written(text, tmp_path, name)
+    write_all(files, tmp_path)
     piped(tmp_path / "p")
     (tmp_path / "d").mkdir()
     done = trim(words.split(), tmp_path)

@@ -182,9 +182,14 @@ def example(name: str) -> Path:
 
 def written(text: Union[str, bytes], folder: Path, name: str = "formula.cnf") -> Path:
     path = folder / name
-    path.parent.mkdir(exist_ok=True)
+    path.parent.mkdir(parents=True, exist_ok=True)
     path.write_bytes(text.encode() if isinstance(text, str) else text)
     return path
+
+
+def write_all(files: Mapping[str, Union[str, bytes]], folder: Path) -> None:
+    for name, text in files.items():
+        written(text, folder, name)
 
 
 def executable(text: str, folder: Path, name: str) -> Path:
