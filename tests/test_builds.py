@@ -8,8 +8,8 @@ from typing import Dict, List, Sequence, Set
 
 import pytest
 
-from harness import (BUILDS, FILTER, LIMIT, ROOT, VERSION, Ran, alone, executable, needs, output_of,
-                     run, sanitized_explain, sanitized_filter, sanitized_trim)
+from harness import (BUILDS, EXPLAIN, FILTER, LIMIT, ROOT, TRIM, VERSION, Ran, alone, executable,
+                     needs, output_of, run, sanitized)
 from solving import built
 
 C = {"CC": "one-cc", "CFLAGS": "-DFLAG_OF_C", "CPPFLAGS": "-DFLAG_OF_BOTH", "LDFLAGS": "-Lflag",
@@ -224,5 +224,5 @@ def test_the_packages_links(tmp_path: Path) -> None:
 def test_builds_for_tests() -> None:
     """What other tests run is built now: while lrupd is being proved, they can't run."""
     built("solve", for_tests=True)
-    for build in (sanitized_filter, sanitized_trim, sanitized_explain):
-        assert build().is_file()
+    for tool in (FILTER, TRIM, EXPLAIN):
+        assert sanitized(tool).is_file()

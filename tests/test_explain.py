@@ -24,7 +24,7 @@ import pytest
 from faulty import garbled_text, refuted
 from harness import (COMPRESSED, EXAMPLES, EXPLAIN, FOUR, NONE_BAD, ROOT, SANITIZING, VERSION, Ran,
                      compiler, enough_for, example, generated, named, output_of, piped, run,
-                     sanitized_explain, write_all, written)
+                     sanitized, write_all, written)
 from mutations import Mutant
 from rewriting import cut_while_read, withstands
 
@@ -42,7 +42,7 @@ Faults = Dict[int, Tuple[int, str]]     # by stream: the line, and the fault's w
 
 def explain(words: Sequence[object], tmp_path: Path, quick: bool = False) -> Ran:
     """Runs the build for tests, or the normal one, which is faster."""
-    return run([EXPLAIN if quick else sanitized_explain(), *words], cwd=tmp_path,
+    return run([EXPLAIN if quick else sanitized(EXPLAIN), *words], cwd=tmp_path,
                env={**os.environ, **SANITIZING})
 
 
@@ -828,7 +828,7 @@ def test_a_file_that_is_cut(tmp_path: Path) -> None:
 
 @pytest.mark.parametrize("seed", range(4))
 def test_files_that_are_rewritten(seed: int, tmp_path: Path) -> None:
-    command = lambda number, _: [sanitized_explain(), "--all" if number % 2 else "--serial"]
+    command = lambda number, _: [sanitized(EXPLAIN), "--all" if number % 2 else "--serial"]
     withstands(command, (0, 1, BAD), 30, seed, tmp_path)
 
 

@@ -23,8 +23,8 @@ import pytest
 
 from harness import (BUILDS, FILTER, FOUR, LIMIT, LRUP_RECHECK, PROGRAM, SANITIZE, SANITIZING, Ran,
                      added, dimacs, example, for_tests, generated, lacking, link_over, named, needs,
-                     output_of, piped, report, run, sanitized_filter, sanitizer, sources_of,
-                     started, until, unwatched, waiting, watched_ends, written)
+                     output_of, piped, report, run, sanitized, sanitizer, sources_of, started,
+                     until, unwatched, waiting, watched_ends, written)
 from proof_forms import FORMS, Step, read_formula, read_steps
 from rounds import last
 from solving import in_place_of_lrupd, of_process
@@ -176,7 +176,7 @@ def test_sanitized(name: str, stream: str, memory: str, least: int, most: int, f
                    tmp_path: Path) -> None:
     if not sanitizer():
         lacking(f"the C compiler doesn't build with {SANITIZE[3]}")
-    want_recorded(name, stream, memory, least, most, form, True, sanitized_filter(), tmp_path)
+    want_recorded(name, stream, memory, least, most, form, True, sanitized(FILTER), tmp_path)
 
 
 # The solver's command, the form if it has to be given, the generator's arguments, the memory, and

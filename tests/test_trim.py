@@ -26,8 +26,7 @@ import pytest
 
 from harness import (COMPRESSED, EXAMPLES, FILTER, FOUR, GENERATOR, SANITIZE, SANITIZING, TRIM,
                      VERDICTS, VERSION, Ran, dimacs, example, generated, lacking, named, output_of,
-                     piped, random_clauses, run, sanitized_trim, sanitizer, within, write_all,
-                     written)
+                     piped, random_clauses, run, sanitized, sanitizer, within, write_all, written)
 from faulty import garbled_text, refuted, solved
 from lrat import lrat_fault
 from proof_forms import Clause, Step, read_formula, read_steps
@@ -45,7 +44,7 @@ Trimmed = Callable[..., str]    # the fixture `trimmed`
 
 def trim(words: Sequence[object], folder: Path, before: Optional[Callable[[], None]] = None) -> Ran:
     """Runs the build for tests in this folder."""
-    return run([sanitized_trim(), *words], cwd=folder, env={**os.environ, **SANITIZING},
+    return run([sanitized(TRIM), *words], cwd=folder, env={**os.environ, **SANITIZING},
                preexec_fn=before)
 
 
@@ -575,7 +574,7 @@ def test_files_that_are_rewritten(seed: int, tmp_path: Path) -> None:
     """Meanwhile lrup-trim writes all outputs or none."""
     if not sanitizer():
         lacking(f"the C compiler doesn't build with {SANITIZE[3]}")
-    command = lambda number, folder: [sanitized_trim(), *outputs_of(folder),
+    command = lambda number, folder: [sanitized(TRIM), *outputs_of(folder),
                                       *["--re-hint"] * (number % 4 == 3)]
     for status, folder in withstands(command, (0, 1), 15, seed, tmp_path):
         assert sorted(os.listdir(folder)) == (sorted(OUTPUTS) if status == 0 else [])

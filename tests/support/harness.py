@@ -38,9 +38,6 @@ OUT = ROOT / "out"
 BIN, BUILDS = OUT / "bin", OUT / "tests"
 SOLVER, FILTER = BIN / "example-solver", BIN / "lrup-exact"
 TRIM, EXPLAIN = BIN / "lrup-trim", BIN / "lrup-explain"
-SANITIZED = BUILDS / "lrup-exact-sanitized"
-SANITIZED_TRIM = BUILDS / "lrup-trim-sanitized"
-SANITIZED_EXPLAIN = BUILDS / "lrup-explain-sanitized"
 VERSION = (ROOT / "VERSION").read_text().strip()
 USUAL_FLAGS = "-O2"
 # The options of conftest.py, and lrup-model, which is beside PROGRAM. COUNT is the number of random
@@ -386,11 +383,6 @@ def for_tests(program: Path, sources: Iterable[Path], *flags: str,
     return program
 
 
-@functools.lru_cache(maxsize=None)
-def sanitized_filter() -> Path:
-    return for_tests(SANITIZED, sources_of("lrup-exact"))
-
-
 def sources_of(tool: str) -> List[Path]:
     """The tool's own sources, the library's and the filter's. lines.c, which reads records, needs
     libmd, so lrup-exact doesn't have it."""
@@ -399,13 +391,9 @@ def sources_of(tool: str) -> List[Path]:
 
 
 @functools.lru_cache(maxsize=None)
-def sanitized_trim() -> Path:
-    return for_tests(SANITIZED_TRIM, sources_of("lrup-trim"), libraries=["-lmd"])
-
-
-@functools.lru_cache(maxsize=None)
-def sanitized_explain() -> Path:
-    return for_tests(SANITIZED_EXPLAIN, sources_of("lrup-explain"), libraries=["-lmd"])
+def sanitized(tool: Path) -> Path:
+    return for_tests(BUILDS / f"{tool.name}-sanitized", sources_of(tool.name),
+                     libraries=["-lmd"] * (tool != FILTER))
 
 
 # The answers expected of the checker.
