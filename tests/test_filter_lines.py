@@ -110,12 +110,6 @@ def refusals() -> List[Refused]:
     ]
 
 
-@pytest.mark.parametrize("formula, proof, cause, lines, words", named(refusals()))
-def test_refused(formula: str, proof: Text, cause: str, lines: str, words: List[str],
-                 tmp_path: Path) -> None:
-    want_stop(formula, proof, cause, lines, words, tmp_path)
-
-
 def refusals_of_frat() -> List[Refused]:
     late = TOLD + "a 10 2 0 l 20 7 0\n"
     return [
@@ -151,12 +145,6 @@ def refusals_of_frat() -> List[Refused]:
     ]
 
 
-@pytest.mark.parametrize("formula, proof, cause, lines, words", named(refusals_of_frat()))
-def test_refused_frat(formula: str, proof: Text, cause: str, lines: str, words: List[str],
-                      tmp_path: Path) -> None:
-    want_stop(formula, proof, cause, lines, words, tmp_path)
-
-
 def refusals_in_binary() -> List[Refused]:
     drat, lrat = ["--format", "binary-drat"], ["--format", "binary-lrat"]
     two, five = b"a" + codes([2]), b"a" + code(5) + codes([2]) + codes([1, 2])
@@ -187,10 +175,13 @@ def refusals_in_binary() -> List[Refused]:
     ]
 
 
-@pytest.mark.parametrize("formula, proof, cause, lines, words", named(refusals_in_binary()))
-def test_refused_binary(formula: str, proof: Text, cause: str, lines: str, words: List[str],
-                        tmp_path: Path) -> None:
-    """Messages name the step and the byte at which it begins; both count from 1."""
+@pytest.mark.parametrize("formula, proof, cause, lines, words", named([
+    *refusals(), *((f"FRAT, {name}", *rest) for name, *rest in refusals_of_frat()),
+    *refusals_in_binary()]))
+def test_refused(formula: str, proof: Text, cause: str, lines: str, words: List[str],
+                 tmp_path: Path) -> None:
+    """Messages about binary proofs name the step and the byte at which it begins; both count
+    from 1."""
     want_stop(formula, proof, cause, lines, words, tmp_path)
 
 
