@@ -346,24 +346,17 @@ def values_of_bmc(circuit: Path, depth: int, induction: bool) -> Optional[Dict[s
     return values
 
 
-@pytest.mark.parametrize("depth", [2, 3, 4, 8])
+@pytest.mark.parametrize("depth, induction", [
+    *(pytest.param(depth, False, id=f"{depth} steps") for depth in (2, 3, 4, 8)),
+    *(pytest.param(depth, True, id=f"{depth} steps, --induction") for depth in (2, 3))])
 @pytest.mark.parametrize("text", EVERY_CIRCUIT)
-def test_bounded_model_checking(text: str, depth: int, tmp_path: Path) -> None:
-    """The formula of bmc.sh is satisfiable if the one of yosys's own command `sat` is."""
+def test_bounded_model_checking(text: str, depth: int, induction: bool, tmp_path: Path) -> None:
+    """The formula of bmc.sh is satisfiable if the one of yosys's own command `sat` is. With
+    --induction, registers may hold anything at first."""
     needs("yosys")
     circuit = written(text, tmp_path, "one.v")
-    values = values_of_bmc(circuit, depth, induction=False)
-    assert (values is not None) == satisfiable_by_yosys(circuit, depth, induction=False)
-
-
-@pytest.mark.parametrize("depth", [2, 3])
-@pytest.mark.parametrize("text", EVERY_CIRCUIT)
-def test_induction(text: str, depth: int, tmp_path: Path) -> None:
-    """The same with --induction. Registers may hold anything at first."""
-    needs("yosys")
-    circuit = written(text, tmp_path, "one.v")
-    values = values_of_bmc(circuit, depth, induction=True)
-    assert (values is not None) == satisfiable_by_yosys(circuit, depth, induction=True)
+    values = values_of_bmc(circuit, depth, induction)
+    assert (values is not None) == satisfiable_by_yosys(circuit, depth, induction)
 
 
 # Circuits that the scripts refuse, and what is known of a formula.
