@@ -100,6 +100,7 @@ bool is_dropped(const Stream *stream, uint64_t identity);
 // neither dropped nor deleted
 bool is_usable(const Replay *replay, const Stream *stream, uint64_t identity);
 bool is_foreign(const Replay *replay, const Stream *stream, uint64_t identity);  // another stream's
+bool is_own(const Replay *replay, const Stream *stream, uint64_t identity);      // this stream's
 bool is_awaited(const Replay *replay, uint64_t identity);  // its owner may still derive it
 uint64_t last_derived(const Replay *replay);               // of all streams, or the formula's last
 uint64_t next_identity(const Replay *replay, const Stream *stream);
@@ -115,6 +116,7 @@ void forget_values(Replay *replay);
 // replay.c
 void replay_all(Replay *replay, const char *formula, const char *folder, const char *const *paths,
                 uint32_t count);
+Origin origin_of(const Replay *replay, uint64_t identity);  // up to the last
 Line current_line(const Stream *stream, bool *is_whole);
 // the number of the line that derives the clause, if it is the current line or a later one; or 0
 uint64_t line_deriving(const Stream *stream, uint64_t identity);

@@ -21,7 +21,7 @@ bool is_foreign(const Replay *replay, const Stream *stream, uint64_t identity) {
     return is_derived(replay, identity) && owner_of(replay, identity) != stream;
 }
 
-static bool is_own(const Replay *replay, const Stream *stream, uint64_t identity) {
+bool is_own(const Replay *replay, const Stream *stream, uint64_t identity) {
     return is_derived(replay, identity) && owner_of(replay, identity) == stream;
 }
 

@@ -173,7 +173,7 @@ static void close_streams(Replay *replay) {
     grow(replay->streams, 0);
 }
 
-static Origin origin_of(const Replay *replay, uint64_t identity) {
+Origin origin_of(const Replay *replay, uint64_t identity) {
     if (identity <= replay->clauses)
         return replay->origins ? replay->origins[identity - 1] : (Origin){ .number = identity };
     return (Origin){ replay->round, owner_of(replay, identity)->number,

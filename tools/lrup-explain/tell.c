@@ -31,18 +31,13 @@ static void tell_origin(Origin origin, uint32_t round) {
 void tell_place(const Replay *replay, uint64_t identity) {
     if (identity > replay->last) {
         printf("above the last identity, %llu", (Printed)replay->last);
-    } else if (identity <= replay->clauses) {
-        tell_origin(replay->origins ? replay->origins[identity - 1]
-                                    : (Origin){ .number = identity },
-                    replay->round);
-    } else {
-        Origin origin = { replay->round, owner_of(replay, identity)->number,
-                          known_of(replay, identity)->line };
-        if (origin.number)
-            tell_origin(origin, replay->round);
-        else
-            printf("stream %u, no such line so far", origin.stream);
+        return;
     }
+    Origin origin = origin_of(replay, identity);
+    if (origin.number)
+        tell_origin(origin, replay->round);
+    else
+        printf("stream %u, no such line so far", origin.stream);
 }
 
 static void tell_more(size_t count) {
