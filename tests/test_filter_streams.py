@@ -16,8 +16,8 @@ from typing import Any, Callable, Dict, Iterable, List, Tuple
 import pytest
 
 from filtering import FIRST, ONE_OF_TWO, Text, at_place, check, check_report, exact, sorted_hints
-from harness import (FILTER, FOUR, LIMIT, PROOFS, Ran, example, generated, output_of, read_line,
-                     run, started, written)
+from harness import (FILTER, FOUR, LIMIT, PROOFS, RECORDED, Ran, example, generated, output_of,
+                     read_line, run, started, written)
 from lrat import lrat_fault
 from proof_forms import FORMS, Step, code, codes, drat, read_formula, read_steps, varint
 
@@ -102,12 +102,6 @@ def exact_stream(name: str, number: int, names: List[str], formula: Path, seed: 
     assert (said, status) == ("", 0), name
     assert imports_in(text) == imports_in(source.read_text()), name
     return written(text, work, f"exact{number}")
-
-
-RECORDED = [("four-clause.cnf", ["four-clause.lrup"]), ("pigeonhole.cnf", ["pigeonhole.lrup"]),
-            ("bmc.cnf", ["bmc.lrup"]), ("pigeonhole.cnf", ["pigeonhole-two.1", "pigeonhole-two.2"]),
-            ("bmc.cnf", [f"bmc-four.{number}" for number in range(1, 5)]),
-            ("two-groups.cnf", [f"two-groups.{number}" for number in range(1, 5)])]
 
 
 @pytest.mark.parametrize("formula, names, imports, seed", [

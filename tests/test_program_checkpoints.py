@@ -12,8 +12,8 @@ from typing import Dict, Iterator, List, Optional, Sequence, Tuple
 import pytest
 
 from checkpoints import MOST_CLAUSES, live, most_clauses, printed, variables_of, want_checkpoint
-from harness import (FOUR, SMALL_ROW, Ran, Wanted, answered, enough_for, example, held, report, run,
-                     run_by_another, runs_in_both_ways, small, within, written)
+from harness import (FOUR, RECORDED, SMALL_ROW, Ran, Wanted, answered, enough_for, example, held,
+                     report, run, run_by_another, runs_in_both_ways, small, within, written)
 
 ONE, TWO = "5 2 0 1 2 0\n", "5 2 0 1 2 0\n6 0 5 3 4 0\n"
 DROPPING = "5 2 0 1 2 0\n7 d 1 0\n"
@@ -286,15 +286,9 @@ def test_the_most_clauses(program: str, count: int, fault: str, tmp_path: Path) 
 # Checkpoints of recorded streams.
 
 
-RECORDED = [("pigeonhole.cnf", ["pigeonhole.lrup"]), ("bmc.cnf", ["bmc.lrup"]),
-            ("pigeonhole.cnf", ["pigeonhole-two.1", "pigeonhole-two.2"]),
-            ("bmc.cnf", [f"bmc-four.{number}" for number in range(1, 5)]),
-            ("two-groups.cnf", [f"two-groups.{number}" for number in range(1, 5)])]
-
-
 @pytest.mark.parametrize("part", [0.1, 0.3, 0.5])
 @pytest.mark.parametrize("formula, names", [pytest.param(formula, names, id=names[0])
-                                            for formula, names in RECORDED])
+                                            for formula, names in RECORDED[1:]])
 def test_recorded(program: str, way: List[str], formula: str, names: List[str], part: float,
                   tmp_path: Path) -> None:
     """Runs the first lines of each stream, so that none derives the empty clause. Another run, over

@@ -21,8 +21,8 @@ import pytest
 
 from harness import (BUILDS, COUNT, FOUR, MODEL, ROOT, SUPPORT, alone, compiled, dimacs, is_newer,
                      random_clauses, run, until, written)
-from hostile import (FOUND, PROOF, PROVED, SATISFIABLE, STATUSES, UNDER, UNKNOWN, is_model, printed,
-                     run_with)
+from hostile import (ANY_SIGNAL, DEADLY, FOUND, PROOF, PROVED, SATISFIABLE, STATUSES, STOPS, UNDER,
+                     UNKNOWN, is_model, printed, run_with)
 from hostile_programs import COMMON, PROGRAMS, PROVING, SATISFYING, Program, programs
 from solving import (EARLY, FRONT, FRONTS_FLAGS, SOLVE, Answer, end_all, end_of, marked, of_process,
                      processes_of, processes_of_run, solve, started_run, with_model)
@@ -181,11 +181,6 @@ def test_each_call_refused(function: str, how: str, name: str, refusing_front: P
 
 # Random signals.
 
-GENTLE = (signal.SIGCHLD, signal.SIGCONT)
-STOPS = (signal.SIGSTOP, signal.SIGTSTP, signal.SIGTTOU)
-DEADLY = (signal.SIGHUP, signal.SIGINT, signal.SIGQUIT, signal.SIGABRT, signal.SIGFPE,
-          signal.SIGUSR1, signal.SIGALRM, signal.SIGTERM, signal.SIGPIPE, signal.SIGSEGV,
-          signal.SIGXCPU, signal.SIGKILL)
 SOON = 20       # seconds within which everything ends once the front is killed
 A_TEST = 6      # signals per test
 
@@ -194,7 +189,7 @@ def sent(numbers: random.Random, pid: int) -> Tuple[str, str]:
     """Sends a random signal to a random process of this front's run, and returns both names. A
     stopped process may be continued soon."""
     name, chosen = numbers.choice(sorted(processes_of_run(pid).items()))
-    number, goes_on = numbers.choice((*DEADLY, *STOPS, *GENTLE)), numbers.random() < 0.5
+    number, goes_on = numbers.choice(ANY_SIGNAL), numbers.random() < 0.5
     with contextlib.suppress(ProcessLookupError):
         os.kill(chosen, number)
         if number in STOPS and goes_on:

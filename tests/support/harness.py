@@ -49,6 +49,11 @@ BEGUN = time.monotonic()
 RT: Optional[str] = None
 LIMIT = 300  # seconds after which a run counts as hanging, even on a slow and busy machine
 FOUR = "p cnf 2 4\n1 2 0\n-1 2 0\n1 -2 0\n-1 -2 0\n"
+# Formulas and streams among the examples.
+RECORDED = [("four-clause.cnf", ["four-clause.lrup"]), ("pigeonhole.cnf", ["pigeonhole.lrup"]),
+            ("bmc.cnf", ["bmc.lrup"]), ("pigeonhole.cnf", ["pigeonhole-two.1", "pigeonhole-two.2"]),
+            ("bmc.cnf", [f"bmc-four.{number}" for number in range(1, 5)]),
+            ("two-groups.cnf", [f"two-groups.{number}" for number in range(1, 5)])]
 # What lrup-explain prints if no line is bad; without a folder, it also asks about sizes.
 NONE_BAD = "no line is bad\n  if lrupd found one: missing and retired may depend on time"
 # The first bytes of files that these programs unpack.
