@@ -159,18 +159,14 @@ uint64_t filter_own_additions(const Filter *filter, uint64_t number) {
     return additions / cycle * size + own;
 }
 
-uint64_t filter_identity(const Filter *filter, uint64_t number, uint64_t own_addition) {
-    uint64_t place = IDENTITIES_OF_AN_ADDITION * own_addition + IDENTITIES_OF_AN_ADDITION - 1,
+// The identity of this step's addition if that filter derives it.
+static uint64_t identity_by(const Filter *filter, uint64_t number) {
+    uint64_t additions = filter_own_additions(filter, number) + 1,
+             place = IDENTITIES_OF_AN_ADDITION * additions - 1,
              stream = filter->stream - filter->windows.number + number,
              identity = filter->formula.clauses + stream + place * filter->streams;
     if (identity > LAST_IDENTITY) stop("an identity of more than %d digits", DIGITS);
     return identity;
-}
-
-// The identity of this step's addition.
-static uint64_t identity_by_number(const Filter *filter) {
-    uint64_t number = filter_owner(filter);
-    return filter_identity(filter, number, filter_own_additions(filter, number));
 }
 
 // The stream's next identity; or the identity that LRAT gives, if there is only one stream or other
@@ -184,7 +180,8 @@ static uint64_t new_identity(const Filter *filter, const Addition *addition) {
                  (long long)name);
         return (uint64_t)name;
     }
-    return filter_has_windows(filter) ? identity_by_number(filter) : filter_next_identity(filter);
+    return filter_has_windows(filter) ? identity_by(filter, filter_owner(filter))
+                                      : filter_next_identity(filter);
 }
 
 // How many lines that the proof doesn't have can get identities before this addition. LRAT streams
@@ -365,7 +362,7 @@ static void keep(Filter *filter, const Addition *addition, ClauseRef ref) {
 static void leave_to_another(Filter *filter, const Addition *addition) {
     if (addition->hinted == 0 && !filter->propagation.used)
         propagation_settle(&filter->propagation);
-    ClauseRef ref = clauses_add(&filter->clauses, identity_by_number(filter),
+    ClauseRef ref = clauses_add(&filter->clauses, identity_by(filter, filter_owner(filter)),
                                 filter->literals.items, filter->literals.length, false);
     clause_at(&filter->clauses, ref)->flags -= RECENT;  // as clauses_add makes it
     keep(filter, addition, ref);
@@ -465,13 +462,10 @@ void filter_meet(Filter *filter) {
     filter->literals = filter->met;
     filter->chain.length = 0;
     PUSH(&filter->chain, filter->meeting);
-    uint64_t own = filter_identity(filter, number, filter_own_additions(filter, number));
-    clauses_delete(&filter->clauses, filter_write_line(filter, own));
+    clauses_delete(&filter->clauses, filter_write_line(filter, identity_by(filter, number)));
     filter->literals = of_step;
     for (uint64_t other = 0; other < filter->windows.filters; other++)
-        if (other != number)
-            write_import(filter_identity(filter, other, filter_own_additions(filter, other)),
-                         numbers, filter->met.length);
+        if (other != number) write_import(identity_by(filter, other), numbers, filter->met.length);
     grow(numbers, 0);
 }
 

@@ -117,8 +117,6 @@ static inline bool filter_has_windows(const Filter *filter) { return filter->win
 uint64_t filter_owner(const Filter *filter);  // which filter derives this step's addition
 // how many additions of this round that filter derives before this step
 uint64_t filter_own_additions(const Filter *filter, uint64_t number);
-// the identity of that filter's addition
-uint64_t filter_identity(const Filter *filter, uint64_t number, uint64_t own_addition);
 // Adds a clause, and imports the same one of each other filter of the proof, which do this before
 // the same step. lrupd waits for them, so that a deletion comes after all lines that may need what
 // it deletes.

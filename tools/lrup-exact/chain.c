@@ -129,7 +129,7 @@ static void open_stream(void) {
     remove_files();
 }
 
-static void close_stream(void) {
+void chain_end(void) {
     write_flush();
     if (close(file) != 0) fail("cannot write the stream:", strerror(errno));
 }
@@ -163,7 +163,7 @@ static void next_round(uint64_t wanted) {
     uint64_t clauses = round_clauses(filter, &literals);
     rows_grow(&rows);
     size_round(clauses, literals, wanted, "the solver's clauses leave");
-    close_stream();
+    chain_end();
     open_stream();
     take_checkpoint();
 }
@@ -198,5 +198,3 @@ void chain_begin(Filter *one, uint64_t memory) {
     }
     open_stream();
 }
-
-void chain_end(void) { close_stream(); }

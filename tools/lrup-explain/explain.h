@@ -151,7 +151,6 @@ void tell(const Replay *replay, const Stream *stream);  // explains the fault of
 // explains a later fault in one line
 void tell_short(const Replay *replay, const Stream *stream);
 void tell_place(const Replay *replay, uint64_t identity);  // where the clause is from
-void tell_list(const int64_t *numbers, size_t count);
 void tell_literals(const Literal *literals, size_t count, const char *between);
 const char *fault_words(const Fault *fault);
 // the owner's bad line, or a line after that, may derive the clause

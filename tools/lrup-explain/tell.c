@@ -50,7 +50,7 @@ void tell_literals(const Literal *literals, size_t count, const char *between) {
     tell_more(count);
 }
 
-void tell_list(const int64_t *numbers, size_t count) {
+static void tell_list(const int64_t *numbers, size_t count) {
     for (size_t k = 0; k < count && k < MOST_SHOWN; k++)
         printf("%s%lld", k ? " " : "", (long long)numbers[k]);
     tell_more(count);
