@@ -8,8 +8,8 @@ from typing import Dict, List, Sequence, Set
 
 import pytest
 
-from harness import (BUILDS, FILTER, LIMIT, ROOT, Ran, alone, needs, run, sanitized_explain,
-                     sanitized_filter, sanitized_trim, written)
+from harness import (BUILDS, EXPLAIN, FILTER, LIMIT, ROOT, TRIM, VERSION, Ran, alone, executable,
+                     needs, output_of, run, sanitized)
 from solving import built
 
 C = {"CC": "one-cc", "CFLAGS": "-DFLAG_OF_C", "CPPFLAGS": "-DFLAG_OF_BOTH", "LDFLAGS": "-Lflag",
@@ -28,9 +28,8 @@ def clean(more: Dict[str, str]) -> Dict[str, str]:
 
 def commands(target: str, words: Sequence[str], env: Dict[str, str]) -> List[List[str]]:
     """The compilers' commands that make would run if nothing were built."""
-    done = run(["make", "-n", "-C", ROOT, target, "OUT=out/none", *words], env=clean(env))
-    assert (done.err, done.status) == ("", 0)
-    found = [re.split(r" && |; ", line) for line in done.out.splitlines()]
+    made = run(["make", "-n", "-C", ROOT, target, "OUT=out/none", *words], env=clean(env))
+    found = [re.split(r" && |; ", line) for line in output_of(made).splitlines()]
     return [words for line in found for part in line for words in [part.split()]
             if " -o " in part and words]
 
@@ -91,9 +90,8 @@ def test_the_front_is_protected(tmp_path: Path) -> None:
     """The front is loaded anywhere, with its tables read-only, and checks its stack and buffers."""
     needs("readelf")
     front = tmp_path / "lrup-solve"
-    done = run(["make", "-s", "-C", ROOT, f"SOLVE={front}", f"OBJECTS={tmp_path}/objects", front],
-               env=clean({}))
-    assert (done.err, done.status) == ("", 0)
+    output_of(run(["make", "-s", "-C", ROOT, f"SOLVE={front}", f"OBJECTS={tmp_path}/objects",
+                   front], env=clean({})))
     found = run(["readelf", "-W", "-hlds", front]).out
     for pattern in (r"Type:\s+DYN", "GNU_RELRO", r"FLAGS.*\bNOW\b", "__stack_chk_fail",
                     r"__\w+_chk\b"):
@@ -173,10 +171,8 @@ def test_install_and_uninstall(tmp_path: Path) -> None:
     """Installs built programs without the toolchain. `make -n install` changes nothing; `make
     install` installs each program, with a manual page and a completion, the pages and the
     examples. Uninstalling leaves nothing. A missing program is reported."""
-    program, model = (written(f"#!/bin/sh\necho 'usage: {usage}'\n", tmp_path, usage.split()[0])
+    program, model = (executable(f"echo 'usage: {usage}'", tmp_path, usage.split()[0])
                       for usage in ("lrupd [--lines N] [--help]", "lrup-model [--assume FILE]"))
-    program.chmod(0o755)
-    model.chmod(0o755)
     place = tmp_path / "a place"
 
     def files() -> List[Path]:
@@ -186,12 +182,11 @@ def test_install_and_uninstall(tmp_path: Path) -> None:
         return in_its_build([*more, f"DESTDIR={place}"])
     assert make("-n", "install", f"PROGRAM={program}").status == 0
     assert not place.exists()
-    done = make("install", f"PROGRAM={program}")
-    assert (done.err, done.status) == ("", 0)
+    said = output_of(make("install", f"PROGRAM={program}"))
     pages = place / "usr/share/doc/lrupd"
     for name in ("README.md", "USING.md", "examples/fifo/bmc.sh", "examples/bmc.cnf"):
         assert (pages / name).is_file()
-    solving = {"lrup-solve", "lrup-check"} if "isn't built" not in done.out else set()
+    solving = {"lrup-solve", "lrup-check"} if "isn't built" not in said else set()
     names = {"lrupd", "lrup-model", "lrup-recheck", "lrup-exact", "lrup-trim",
              "lrup-explain"} | solving
     wanted = {f"usr/{form.format(name)}" for name in names for form in
@@ -201,8 +196,7 @@ def test_install_and_uninstall(tmp_path: Path) -> None:
     completion = (place / "usr/share/bash-completion/completions/lrupd").read_text()
     assert '-W "--help --lines"' in completion
     done = run([place / "usr/bin/lrup-recheck", "--version"])
-    version = (ROOT / "VERSION").read_text().strip()
-    assert (done.err, done.status) == (f"lrup-recheck {version}\n", 2)
+    assert (done.err, done.status) == (f"lrup-recheck {VERSION}\n", 2)
     assert make("uninstall").err == ""
     assert files() == []
     model.unlink()
@@ -217,8 +211,7 @@ def test_the_packages_links(tmp_path: Path) -> None:
     for command in ("dpkg-deb", "dpkg-shlibdeps"):
         needs(command)
     place = tmp_path / "package"
-    done = in_its_build(["install", f"PROGRAM={FILTER}", f"MODEL={FILTER}", f"DESTDIR={place}"])
-    assert (done.err, done.status) == ("", 0)
+    output_of(in_its_build(["install", f"PROGRAM={FILTER}", f"MODEL={FILTER}", f"DESTDIR={place}"]))
     done = run(["sh", ROOT / "tools" / "build" / "deb.sh", place, "1"])
     assert done.status == 0, done.err
     links = [(page, target) for page in (place / "usr/share/doc/lrupd").glob("**/*.md")
@@ -231,5 +224,5 @@ def test_the_packages_links(tmp_path: Path) -> None:
 def test_builds_for_tests() -> None:
     """What other tests run is built now: while lrupd is being proved, they can't run."""
     built("solve", for_tests=True)
-    for build in (sanitized_filter, sanitized_trim, sanitized_explain):
-        assert build().is_file()
+    for tool in (FILTER, TRIM, EXPLAIN):
+        assert sanitized(tool).is_file()

@@ -4,7 +4,7 @@ from typing import Sequence
 
 import pytest
 
-from harness import BIN, ROOT, Ran, built, run, written
+from harness import BIN, ROOT, Ran, built, executable, run
 
 NAMES = ["lrup-exact", "lrup-trim", "lrup-explain", "lrup-solve", "lrup-check"]
 EXPECTED = ["sat", "unsat", "unsat-under-assumptions"]
@@ -17,8 +17,7 @@ def completions(tmp_path: Path) -> Path:
     place = tmp_path / "completions"
     place.mkdir()
     for name in NAMES:
-        path = written(f'#!/bin/sh\nexec {built([BIN / name])[0]} "$@"\n', tmp_path / "bin", name)
-        path.chmod(0o755)
+        executable(f'exec {built([BIN / name])[0]} "$@"', tmp_path / "bin", name)
     script = ROOT / "tools" / "build" / "completions.sh"
     assert run(["sh", script, tmp_path / "bin", place]) == Ran("", "", 0)
     return place

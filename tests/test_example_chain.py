@@ -5,7 +5,6 @@ nine rounds, which lrup-recheck checks. The last round has to end with status 0,
 together have to have as many additions as a single run. With the sizes of the largest round, a
 single run can't hold all additions. If an addition loses its hints, its round has to be the last,
 with a bad line."""
-import re
 import sys
 from pathlib import Path
 from typing import List, NamedTuple, Sequence

@@ -14,7 +14,7 @@ from typing import Any, Callable, Dict, List, NamedTuple, Optional, Tuple
 
 import pytest
 
-from harness import EXAMPLES, Ran, lacking, needs, run, written
+from harness import EXAMPLES, Ran, lacking, needs, output_of, run, written
 
 SMT, LEMMA = EXAMPLES / "smt" / "smt2cnf.py", EXAMPLES / "lemma" / "lemma.py"
 BMC, MITER = EXAMPLES / "fifo" / "bmc.sh", EXAMPLES / "miter" / "miter.sh"
@@ -30,11 +30,9 @@ def shown(formula: Path) -> Optional[Dict[str, str]]:
     assert done.status in (10, 20), done
     if done.status == 20:
         return None
-    done = run([SHOW, formula, written(done.out, formula.parent, "answer")])
-    assert (done.err, done.status) == ("", 0)
-    found = dict(re.fullmatch(r"(\S+) = \d+'b([01]+)", line).groups()   # type: ignore
-                 for line in done.out.splitlines())
-    return found
+    shown = output_of(run([SHOW, formula, written(done.out, formula.parent, "answer")]))
+    return dict(re.fullmatch(r"(\S+) = \d+'b([01]+)", line).groups()   # type: ignore
+                for line in shown.splitlines())
 
 
 # Problems in SMT-LIB, with words of up to eight bits.
@@ -348,24 +346,17 @@ def values_of_bmc(circuit: Path, depth: int, induction: bool) -> Optional[Dict[s
     return values
 
 
-@pytest.mark.parametrize("depth", [2, 3, 4, 8])
+@pytest.mark.parametrize("depth, induction", [
+    *(pytest.param(depth, False, id=f"{depth} steps") for depth in (2, 3, 4, 8)),
+    *(pytest.param(depth, True, id=f"{depth} steps, --induction") for depth in (2, 3))])
 @pytest.mark.parametrize("text", EVERY_CIRCUIT)
-def test_bounded_model_checking(text: str, depth: int, tmp_path: Path) -> None:
-    """The formula of bmc.sh is satisfiable if the one of yosys's own command `sat` is."""
+def test_bounded_model_checking(text: str, depth: int, induction: bool, tmp_path: Path) -> None:
+    """The formula of bmc.sh is satisfiable if the one of yosys's own command `sat` is. With
+    --induction, registers may hold anything at first."""
     needs("yosys")
     circuit = written(text, tmp_path, "one.v")
-    values = values_of_bmc(circuit, depth, induction=False)
-    assert (values is not None) == satisfiable_by_yosys(circuit, depth, induction=False)
-
-
-@pytest.mark.parametrize("depth", [2, 3])
-@pytest.mark.parametrize("text", EVERY_CIRCUIT)
-def test_induction(text: str, depth: int, tmp_path: Path) -> None:
-    """The same with --induction. Registers may hold anything at first."""
-    needs("yosys")
-    circuit = written(text, tmp_path, "one.v")
-    values = values_of_bmc(circuit, depth, induction=True)
-    assert (values is not None) == satisfiable_by_yosys(circuit, depth, induction=True)
+    values = values_of_bmc(circuit, depth, induction)
+    assert (values is not None) == satisfiable_by_yosys(circuit, depth, induction)
 
 
 # Circuits that the scripts refuse, and what is known of a formula.
@@ -493,10 +484,9 @@ def test_a_core_has_no_tied_wires(tmp_path: Path) -> None:
     assert [line for line in lines if line[0] not in "cp" and str(tied) in
             line.replace("-", "").split()[:-1]] == [f"-{tied} 0\n"]
     core = written("".join(line for line in lines if line != f"-{tied} 0\n"), tmp_path, "core")
-    done = run([SHOW, formula, core])
-    assert (done.err, done.status) == ("", 0)
-    assert {"count@2", "less@1"} <= set(done.out.split())
-    assert not {name.partition("@")[0] for name in done.out.split()} & {"zero", "one"}
+    shown = output_of(run([SHOW, formula, core])).split()
+    assert {"count@2", "less@1"} <= set(shown)
+    assert not {name.partition("@")[0] for name in shown} & {"zero", "one"}
 
 
 def test_a_formula_on_standard_output(tmp_path: Path) -> None:

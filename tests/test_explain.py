@@ -22,9 +22,9 @@ from typing import Callable, Dict, List, NamedTuple, Optional, Sequence, Set, Tu
 import pytest
 
 from faulty import garbled_text, refuted
-from harness import (COMPRESSED, EXAMPLES, EXPLAIN, FOUR, NONE_BAD, ROOT, SANITIZING, Ran,
-                     compiler, enough_for, example, generated, named, piped, run,
-                     sanitized_explain, written)
+from harness import (COMPRESSED, EXAMPLES, EXPLAIN, FOUR, NONE_BAD, ROOT, SANITIZING, VERSION, Ran,
+                     compiler, enough_for, example, generated, named, output_of, piped, run,
+                     sanitized, write_all, written)
 from mutations import Mutant
 from rewriting import cut_while_read, withstands
 
@@ -42,7 +42,7 @@ Faults = Dict[int, Tuple[int, str]]     # by stream: the line, and the fault's w
 
 def explain(words: Sequence[object], tmp_path: Path, quick: bool = False) -> Ran:
     """Runs the build for tests, or the normal one, which is faster."""
-    return run([EXPLAIN if quick else sanitized_explain(), *words], cwd=tmp_path,
+    return run([EXPLAIN if quick else sanitized(EXPLAIN), *words], cwd=tmp_path,
                env={**os.environ, **SANITIZING})
 
 
@@ -768,8 +768,7 @@ SAID_OF_CARRIED = (
 
 def test_carried_clauses(tmp_path: Path) -> None:
     """A clause that is carried over from the previous round is described by its origin."""
-    for name, text in CARRIED.items():
-        written(text, tmp_path, f"d/{name}")
+    write_all(CARRIED, tmp_path / "d")
     assert explain([written(FOUR, tmp_path), "d"], tmp_path) == Ran(SAID_OF_CARRIED, "", BAD)
 
 
@@ -829,7 +828,7 @@ def test_a_file_that_is_cut(tmp_path: Path) -> None:
 
 @pytest.mark.parametrize("seed", range(4))
 def test_files_that_are_rewritten(seed: int, tmp_path: Path) -> None:
-    command = lambda number, _: [sanitized_explain(), "--all" if number % 2 else "--serial"]
+    command = lambda number, _: [sanitized(EXPLAIN), "--all" if number % 2 else "--serial"]
     withstands(command, (0, 1, BAD), 30, seed, tmp_path)
 
 
@@ -854,8 +853,7 @@ def test_files_that_are_rewritten(seed: int, tmp_path: Path) -> None:
 def test_refused(words: str, status: int, said: str, tmp_path: Path) -> None:
     """Runs in a folder with a formula f, a stream s, a pipe p, a folder d without rounds, and a
     compressed formula z."""
-    for name, text in {"f": FOUR.encode(), "s": FIRST.encode(), "z": COMPRESSED["zcat"]}.items():
-        written(text, tmp_path, name)
+    write_all({"f": FOUR, "s": FIRST, "z": COMPRESSED["zcat"]}, tmp_path)
     piped(tmp_path / "p")
     (tmp_path / "d").mkdir()
     done = explain(words.split(), tmp_path)
@@ -874,11 +872,8 @@ def test_compressed(unpacker: str, tmp_path: Path) -> None:
 
 @pytest.mark.parametrize("word", ["--help", "-h"])
 def test_help(word: str, tmp_path: Path) -> None:
-    done = explain([word], tmp_path)
-    assert done.out.startswith("usage: lrup-explain ")
-    assert (done.err, done.status) == ("", 0)
+    assert output_of(explain([word], tmp_path)).startswith("usage: lrup-explain ")
 
 
 def test_version() -> None:
-    version = (ROOT / "VERSION").read_text().strip()
-    assert run([EXPLAIN, "--version"]) == Ran(f"lrup-explain {version}\n", "", 0)
+    assert run([EXPLAIN, "--version"]) == Ran(f"lrup-explain {VERSION}\n", "", 0)

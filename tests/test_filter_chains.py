@@ -20,8 +20,8 @@ from typing import Iterable, List, Sequence, Tuple, Union
 import pytest
 
 from harness import (BUILDS, FILTER, PROGRAM, PROOFS, ROOT, SANITIZING, Ran, dimacs, enough_for,
-                     example, for_tests, named, needs, random_clauses, run, sources_of, started,
-                     unwatched, watched_ends, written)
+                     example, for_tests, generated, needs, output_of, random_clauses, run,
+                     sources_of, started, unwatched, watched_ends, written)
 from lrat import lrat_fault
 from proof_forms import FORMS, read_formula, read_steps
 from solving import solve, want_answer
@@ -69,9 +69,7 @@ def check(formula: Path, text: str, work: Path, stream: int = 1, streams: int = 
 
 
 def filtered(words: Sequence[object], given: Text, program: Path = FILTER) -> str:
-    text, said, status = run([program, *words], given, env={**os.environ, **SANITIZING})
-    assert (said, status) == ("", 0)
-    return text
+    return output_of(run([program, *words], given, env={**os.environ, **SANITIZING}))
 
 
 def want_linear(text: str, formula: Path, proof_lines: int, steps: int) -> None:
@@ -287,7 +285,8 @@ def test_short_lines_in_rounds(form: str, tmp_path: Path) -> None:
 
 
 def test_short_lines_of_random_drat(tmp_path: Path) -> None:
-    want_short(PROOFS / "random.cnf", (PROOFS / "random.drat").read_bytes(), "drat", tmp_path)
+    want_short(generated("random 60 2 5", tmp_path), (PROOFS / "random.drat").read_bytes(), "drat",
+               tmp_path)
 
 
 def random_formula(seed: int) -> str:

@@ -7,7 +7,8 @@ from typing import List, Tuple
 import pytest
 
 from filtering import FIRST, ONE_OF_TWO, Text, at_place, check, check_report, exact, sorted_hints
-from harness import COMPRESSED, FILTER, FOUR, ROOT, Ran, dimacs, enough_for, named, run, written
+from harness import (COMPRESSED, FILTER, FOUR, VERSION, Ran, dimacs, enough_for, named, output_of,
+                     run, written)
 from proof_forms import code, codes, varint
 
 UNITS = "p cnf 3 4\n1 0\n-1 2 0\n-2 3 0\n-3 -2 0\n"
@@ -109,12 +110,6 @@ def refusals() -> List[Refused]:
     ]
 
 
-@pytest.mark.parametrize("formula, proof, cause, lines, words", named(refusals()))
-def test_refused(formula: str, proof: Text, cause: str, lines: str, words: List[str],
-                 tmp_path: Path) -> None:
-    want_stop(formula, proof, cause, lines, words, tmp_path)
-
-
 def refusals_of_frat() -> List[Refused]:
     late = TOLD + "a 10 2 0 l 20 7 0\n"
     return [
@@ -150,12 +145,6 @@ def refusals_of_frat() -> List[Refused]:
     ]
 
 
-@pytest.mark.parametrize("formula, proof, cause, lines, words", named(refusals_of_frat()))
-def test_refused_frat(formula: str, proof: Text, cause: str, lines: str, words: List[str],
-                      tmp_path: Path) -> None:
-    want_stop(formula, proof, cause, lines, words, tmp_path)
-
-
 def refusals_in_binary() -> List[Refused]:
     drat, lrat = ["--format", "binary-drat"], ["--format", "binary-lrat"]
     two, five = b"a" + codes([2]), b"a" + code(5) + codes([2]) + codes([1, 2])
@@ -186,10 +175,13 @@ def refusals_in_binary() -> List[Refused]:
     ]
 
 
-@pytest.mark.parametrize("formula, proof, cause, lines, words", named(refusals_in_binary()))
-def test_refused_binary(formula: str, proof: Text, cause: str, lines: str, words: List[str],
-                        tmp_path: Path) -> None:
-    """Messages name the step and the byte at which it begins; both count from 1."""
+@pytest.mark.parametrize("formula, proof, cause, lines, words", named([
+    *refusals(), *((f"FRAT, {name}", *rest) for name, *rest in refusals_of_frat()),
+    *refusals_in_binary()]))
+def test_refused(formula: str, proof: Text, cause: str, lines: str, words: List[str],
+                 tmp_path: Path) -> None:
+    """Messages about binary proofs name the step and the byte at which it begins; both count
+    from 1."""
     want_stop(formula, proof, cause, lines, words, tmp_path)
 
 
@@ -287,9 +279,8 @@ def test_output_in_some_order(program: str, formula: str, proof: Text, lines: st
                               words: List[str], tmp_path: Path) -> None:
     """The order of hints isn't fixed; lrupd has to accept it."""
     path = written(formula, tmp_path)
-    text, said, status = exact([*words, path], proof)
+    text = output_of(exact([*words, path], proof))
     assert sorted_hints(text) == sorted_hints(lines)
-    assert (said, status) == ("", 0)
     stream, count = (int(words[1]), int(words[3])) if "--stream" in words else (1, 1)
     streams = [path for path, _ in at_place((written(text, tmp_path, "exact"), 0), stream, count)]
     deleted = text.count(" d ")
@@ -303,11 +294,10 @@ def test_a_clause_that_the_formula_has_twice(tmp_path: Path) -> None:
     """Two `o` lines name both copies of a clause that the formula has twice: one is deleted, and
     the other stays."""
     formula = written("p cnf 2 5\n1 2 0\n-1 2 0\n1 -2 0\n-1 -2 0\n2 1 0\n", tmp_path)
-    text, said, status = exact([formula],
-                               "o 3 1 2 0\no 8 2 1 0\no 4 -1 2 0\nd 8 2 1 0\na 9 2 0 l 3 4 0\n")
+    text = output_of(exact(
+        [formula], "o 3 1 2 0\no 8 2 1 0\no 4 -1 2 0\nd 8 2 1 0\na 9 2 0 l 3 4 0\n"))
     deletion, addition = ("1", "5") if text.startswith("1 d 1 ") else ("5", "1")
     assert text == f"1 d {deletion} 0\n6 2 0 {addition} 2 0\n"
-    assert (said, status) == ("", 0)
 
 
 def test_names_far_from_each_other(program: str, tmp_path: Path) -> None:
@@ -322,9 +312,8 @@ def test_names_far_from_each_other(program: str, tmp_path: Path) -> None:
             proof += f"d {names.pop(numbers.randrange(len(names)))} 1 2 0\n"
     numbers.shuffle(names)
     proof += "".join(f"d {name} 1 2 0\n" for name in names)
-    text, said, status = exact([formula], proof)
+    text = output_of(exact([formula], proof))
     assert text.count(" d ") == count
-    assert (said, status) == ("", 0)
     check_report(program, formula, text, f"{count} added, {count} deleted, ended", tmp_path)
 
 
@@ -343,8 +332,7 @@ def test_hints_that_are_held(program: str, tmp_path: Path) -> None:
         numbers.shuffle(hints)
         proof += (f"{identity} -{first} -{first + 1} -{first + 2} {last} 0 "
                   f"{' '.join(map(str, hints))} 0\n")
-    text, said, status = exact([formula], proof)
-    assert (said, status) == ("", 0)
+    text = output_of(exact([formula], proof))
     check_report(program, formula, text, f"{count} added, 0 deleted, ended", tmp_path)
 
 
@@ -377,15 +365,11 @@ def test_the_stream_of_another_is_long(program: str, tmp_path: Path) -> None:
     ours = "".join(f"{5 + 2 * number} 1 2 0 {6 + 2 * number} 0\n" for number in range(count))
     ours += f"{5 + 2 * count} 0 {6 + 2 * count} 3 4 0\n"
     other = written(theirs, tmp_path, "other")
-    text, said, status = exact([*ONE_OF_TWO, "--other", f"2={other}", formula], ours)
+    text = output_of(exact([*ONE_OF_TWO, "--other", f"2={other}", formula], ours))
     assert text == ours
-    assert (said, status) == ("", 0)
     check(program, formula, [(written(text, tmp_path, "exact"), count + 1), (other, count + 1)])
 
 
 def test_summary_and_version() -> None:
-    text, said, status = exact(["--help"])
-    assert (said, status) == ("", 0)
-    assert text.startswith("usage: lrup-exact ")
-    version = (ROOT / "VERSION").read_text().strip()
-    assert run([FILTER, "--version"]) == Ran(f"lrup-exact {version}\n", "", 0)
+    assert output_of(exact(["--help"])).startswith("usage: lrup-exact ")
+    assert run([FILTER, "--version"]) == Ran(f"lrup-exact {VERSION}\n", "", 0)

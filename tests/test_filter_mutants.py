@@ -19,9 +19,9 @@ from typing import Iterator, List, Sequence
 
 import pytest
 
-from harness import (BUILDS, COUNT, FIRST, PROGRAM, SANITIZE, SANITIZING, SMALL_ROW, SUPPORT, Ran,
-                     enough_for, feed, for_tests, lacking, piped, run, sanitized_filter, sanitizer,
-                     sources_of, started, text_of, written)
+from harness import (BUILDS, COUNT, FILTER, FIRST, PROGRAM, SANITIZE, SANITIZING, SMALL_ROW,
+                     SUPPORT, Ran, enough_for, feed, for_tests, lacking, piped, run, sanitized,
+                     sanitizer, sources_of, started, text_of, written)
 from mutations import Mutant
 
 KEPT, FORKING = BUILDS / "mutants", BUILDS / "lrup-exact-forking"
@@ -125,8 +125,8 @@ def kept(mutant: Mutant) -> str:
     shutil.copytree(mutant.folder, place)
     words = " ".join(word.replace(str(mutant.folder), str(place)) for word in mutant.words)
     if not mutant.is_piped:
-        return f"{sanitized_filter()} {words}"
-    return f"{sanitized_filter()} {words} < {written(mutant.proof, place, 'proof')}"
+        return f"{sanitized(FILTER)} {words}"
+    return f"{sanitized(FILTER)} {words} < {written(mutant.proof, place, 'proof')}"
 
 
 def rows(count: int, first: int) -> List[range]:

@@ -22,8 +22,8 @@ from typing import IO, Dict, Iterator, List, NamedTuple, Optional, Sequence, Set
 import pytest
 
 from harness import (BUILDS, FILTER, FOUR, LIMIT, LRUP_RECHECK, PROGRAM, SANITIZE, SANITIZING, Ran,
-                     added, dimacs, example, for_tests, generated, lacking, link_over, named,
-                     needs, piped, report, run, sanitized_filter, sanitizer, sources_of, started,
+                     added, dimacs, example, for_tests, generated, lacking, link_over, named, needs,
+                     output_of, piped, report, run, sanitized, sanitizer, sources_of, started,
                      until, unwatched, waiting, watched_ends, written)
 from proof_forms import FORMS, Step, read_formula, read_steps
 from rounds import last
@@ -176,7 +176,7 @@ def test_sanitized(name: str, stream: str, memory: str, least: int, most: int, f
                    tmp_path: Path) -> None:
     if not sanitizer():
         lacking(f"the C compiler doesn't build with {SANITIZE[3]}")
-    want_recorded(name, stream, memory, least, most, form, True, sanitized_filter(), tmp_path)
+    want_recorded(name, stream, memory, least, most, form, True, sanitized(FILTER), tmp_path)
 
 
 # The solver's command, the form if it has to be given, the generator's arguments, the memory, and
@@ -418,9 +418,8 @@ def test_another_folder_takes_the_name(tmp_path: Path) -> None:
         (tmp_path / "d").rename(tmp_path / "moved")
         mine = [written("mine", tmp_path / "other", name) for name in names]
         (tmp_path / "d").symlink_to("other")
-        done = run([PROGRAM, "--rounds", "moved", formula, "moved/round-1.stream-1"], cwd=tmp_path,
-                   stdin=running.stdout)
-        assert (done.err, done.status) == ("", 0)
+        output_of(run([PROGRAM, "--rounds", "moved", formula, "moved/round-1.stream-1"],
+                      cwd=tmp_path, stdin=running.stdout))
         assert end_of(running) == ("", 0)
     assert [path.read_text() for path in mine] == ["mine"] * len(mine)
     assert left(tmp_path) == names
@@ -630,8 +629,7 @@ def test_without_a_pipe(tmp_path: Path) -> None:
     words = [FILTER, "--rounds=d", "--memory=3K", formula, written(text, tmp_path, "proof")]
     with open(tmp_path / "out", "wb") as out, started(words, cwd=tmp_path, stdout=out) as running:
         until("the first stream", lambda: (tmp_path / "d" / "round-1.stream-1").exists())
-        done = run([LRUP_RECHECK, "--lrupd", PROGRAM, "d", formula], cwd=tmp_path)
-        assert (done.err, done.status) == ("", 0)
+        output_of(run([LRUP_RECHECK, "--lrupd", PROGRAM, "d", formula], cwd=tmp_path))
         assert running.wait(LIMIT) == 0
         assert left(tmp_path) == []
     assert (tmp_path / "out").read_text() == "d/round-1.stream-1\n"

@@ -11,8 +11,8 @@ from pathlib import Path
 
 import pytest
 
-from harness import (FILTER, LIMIT, Ran, example, generated, named, needs, piped, read_line,
-                     started)
+from harness import (FILTER, LIMIT, Ran, example, generated, named, needs, output_of, piped,
+                     read_line, started)
 
 SIZES = "--lines 4000000 --room 60000000 "
 CADICAL = f"""\
@@ -94,8 +94,7 @@ def want_refuted(program: str, commands: str, words: str, work: Path) -> None:
     """Each stream ends, and the formula is refuted."""
     wanted_on_path(commands)
     make_formula(words, work)
-    out, said, status = in_bash(program, commands, work)
-    assert (said, status) == ("", 0)
+    out = output_of(in_bash(program, commands, work))
     *lines, verdict = out.splitlines()
     assert verdict == "s UNSATISFIABLE"
     assert len(lines) == commands.count("lrup-exact")
@@ -119,10 +118,9 @@ def test_rounds(program: str, memory: str, least: int, tmp_path: Path) -> None:
     """The proof is checked in at least that many rounds."""
     wanted_on_path(IN_ROUNDS)
     make_formula("random 180 3", tmp_path)
-    out, said, status = in_bash(
+    out = output_of(in_bash(
         program, IN_ROUNDS.replace("exact --rounds live", f"exact --rounds live --memory {memory}"),
-        tmp_path)
-    assert (said, status) == ("", 0)
+        tmp_path))
     found = re.fullmatch(
         r"(?:c round (\d+)\n)?c stream 1: \d+ added, \d+ deleted, ended\ns UNSATISFIABLE\n", out)
     assert found, out

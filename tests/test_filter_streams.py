@@ -3,9 +3,9 @@
 The recorded streams of examples/, with their hints shuffled, doubled and missing, with comments and
 extra spaces, have to become good streams with as many additions as before. The same goes for
 streams of several solvers with an import of each clause that they cite from another stream, for the
-recorded streams in each other form, and for CaDiCaL's DRAT text in tests/proofs. Then come limits
-from both sides, truncated proofs, pipes that stay open, and outputs that fail. Proofs of a few
-lines are in test_filter_lines.py."""
+recorded streams in each other form, and for CaDiCaL's DRAT text. Then come limits from both sides,
+truncated proofs, pipes that stay open, and outputs that fail. Proofs of a few lines are in
+test_filter_lines.py."""
 import os
 import random
 import resource
@@ -16,9 +16,10 @@ from typing import Any, Callable, Dict, Iterable, List, Tuple
 import pytest
 
 from filtering import FIRST, ONE_OF_TWO, Text, at_place, check, check_report, exact, sorted_hints
-from harness import (FILTER, FOUR, LIMIT, PROOFS, Ran, example, read_line, run, started, written)
+from harness import (FILTER, FOUR, LIMIT, PROOFS, RECORDED, Ran, example, generated, output_of,
+                     read_line, run, started, written)
 from lrat import lrat_fault
-from proof_forms import FORMS, Step, code, codes, read_formula, read_steps, varint
+from proof_forms import FORMS, Step, code, codes, drat, read_formula, read_steps, varint
 
 
 # Recorded streams with inexact hints.
@@ -103,17 +104,6 @@ def exact_stream(name: str, number: int, names: List[str], formula: Path, seed: 
     return written(text, work, f"exact{number}")
 
 
-RECORDED = [("four-clause.cnf", ["four-clause.lrup"]), ("pigeonhole.cnf", ["pigeonhole.lrup"]),
-            ("bmc.cnf", ["bmc.lrup"]), ("pigeonhole.cnf", ["pigeonhole-two.1", "pigeonhole-two.2"]),
-            ("bmc.cnf", [f"bmc-four.{number}" for number in range(1, 5)]),
-            ("two-groups.cnf", [f"two-groups.{number}" for number in range(1, 5)])]
-# CaDiCaL's DRAT text.
-PROVED = pytest.mark.parametrize("formula, proof", [
-    pytest.param(formula, PROOFS / name, id=name)
-    for formula, name in ((example("pigeonhole.cnf"), "pigeonhole.drat"),
-                          (PROOFS / "random.cnf", "random.drat"))])
-
-
 @pytest.mark.parametrize("formula, names, imports, seed", [
     pytest.param(formula, names, imports, seed, id=names[0] + ", imports" * imports)
     for seed, (formula, names) in enumerate(RECORDED)
@@ -125,23 +115,34 @@ def test_mangled(program: str, formula: str, names: List[str], imports: bool, se
     check(program, example(formula), streams)
 
 
-@PROVED
+@pytest.fixture(params=["pigeonhole.drat", "random.drat"])
+def proved(request: pytest.FixtureRequest, tmp_path: Path) -> Tuple[Path, Path]:
+    """A formula, and CaDiCaL's proof as DRAT text. The first one's steps are those of the recorded
+    stream, whose deletions get the literals in another order, as CaDiCaL writes them."""
+    if request.param == "random.drat":
+        return generated("random 60 2 5", tmp_path), PROOFS / "random.drat"
+    formula = example("pigeonhole.cnf")
+    lines = drat(read_formula(formula), read_steps(example("pigeonhole.lrup")))
+    return formula, written(b"".join(
+        b" ".join([b"d", *line.split()[-2:0:-1], b"0\n"]) if line.startswith(b"d") else line
+        for line in lines), tmp_path, request.param)
+
+
 @pytest.mark.parametrize("stream, count", [(1, 1), (2, 3)])
-def test_without_hints(program: str, formula: Path, proof: Path, stream: int, count: int,
+def test_without_hints(program: str, proved: Tuple[Path, Path], stream: int, count: int,
                        tmp_path: Path) -> None:
-    text, said, status = exact(["--stream", str(stream), "--streams", str(count), formula, proof])
-    assert (said, status) == ("", 0)
+    formula, proof = proved
+    text = output_of(exact(["--stream", str(stream), "--streams", str(count), formula, proof]))
     added = sum(not line.startswith("d") for line in proof.read_text().splitlines())
     check(program, formula, at_place((written(text, tmp_path, "exact"), added), stream, count))
 
 
-@PROVED
-def test_as_lrat(formula: Path, proof: Path) -> None:
+def test_as_lrat(proved: Tuple[Path, Path]) -> None:
     """An LRAT checker accepts the output for a single proof, and finds faults in changed output."""
-    text, said, status = exact([formula, proof])
+    formula, proof = proved
+    text = output_of(exact([formula, proof]))
     clauses, lines = read_formula(formula), text.splitlines(True)
     assert lrat_fault(clauses, text) == ""
-    assert (said, status) == ("", 0)
     *others, last = lines
     first = next(number for number, line in enumerate(lines, 1) if " d " not in line)
     head, _, hints = lines[first - 1].rpartition(" 0 ")
@@ -208,9 +209,8 @@ def test_the_longest_chain(program: str, tmp_path: Path) -> None:
     formula = written("\n".join([f"p cnf {last} {count}", *clauses, ""]), tmp_path)
     hints = " ".join(map(str, range(1, count + 1)))
     for proof in (f"{count + 1} 0 {hints} 0\n", f"{count + 1} 0 0\n"):
-        text, said, status = exact([formula], proof)
+        text = output_of(exact([formula], proof))
         assert len(text.split()) == count + 3
-        assert (said, status) == ("", 0)
         check_report(program, formula, text, "1 added, 0 deleted, ended", tmp_path)
 
 
@@ -220,9 +220,8 @@ def test_many_deletions(program: str, count: int, tmp_path: Path) -> None:
     formula = written(f"p cnf 2 {count + 4}\n" + "1 2 0\n" * count + FOUR.split("\n", 1)[1],
                       tmp_path)
     identities = " ".join(map(str, range(1, count + 1)))
-    text, said, status = exact(
-        [formula], f"{count + 5} d {identities} 0\n{count + 5} 2 0 {count + 1} {count + 2} 0\n")
-    assert (said, status) == ("", 0)
+    text = output_of(exact([formula], f"{count + 5} d {identities} 0\n"
+                                      f"{count + 5} 2 0 {count + 1} {count + 2} 0\n"))
     assert max(len(line.split()) for line in text.splitlines()) <= 65536 + 3
     check_report(program, formula, text, f"1 added, {count} deleted, ended", tmp_path)
 

@@ -21,7 +21,8 @@ from typing import (Any, Callable, Dict, Iterator, List, Mapping, NamedTuple, Op
 import pytest
 
 from harness import (FOUR, LIMIT, LRUP_RECHECK, ROOT, SMALL_ROW, Ran, Wanted, answers, each_of,
-                     held, named, pack, piped, report, run, small, started, until, within, written)
+                     executable, held, named, pack, piped, report, run, small, started, until,
+                     within, write_all, written)
 from rounds import ONE, fault, last, round_files, saved_name
 
 SHELLS = {"dash": ["dash"], "bash": ["bash"], "busybox": ["busybox", "sh"]}
@@ -61,8 +62,7 @@ def files(streams: Sequence[str], others: Mapping[str, str] = {}) -> Dict[str, s
 
 
 def lay(folder: Path, streams: Sequence[str] = ROUNDS, others: Mapping[str, str] = {}) -> None:
-    for name, text in files(streams, others).items():
-        written(text, folder, name)
+    write_all(files(streams, others), folder)
 
 
 def left(saved: Mapping[int, str] = {}) -> Dict[str, Optional[str]]:
@@ -82,12 +82,27 @@ def run_of(name: str, status: int, streams: Sequence[str], out: str, err: str = 
 # How runs end, and the files left.
 
 
+RUNS: Dict[str, Wanted] = {}
+
+
 def want_run(recheck: Recheck, wanted: Wanted, tmp_path: Path) -> None:
     shell, *words = map(str, recheck.command())
     answers(shell, wanted.under(words), tmp_path)
 
 
-def ends() -> Iterator[Named]:
+def runs(table: Callable[[], Iterator[Named]]) -> Callable[..., None]:
+    """Makes a test of a function that yields named runs, which are also in RUNS."""
+    found = dict(table())
+    RUNS.update(found)
+
+    @each_of(found.items())
+    def test(recheck: Recheck, wanted: Wanted, tmp_path: Path) -> None:
+        want_run(recheck, wanted, tmp_path)
+    return test
+
+
+@runs
+def test_ends() -> Iterator[Named]:
     both = {2: SAVED[0], 3: SAVED[1]}
     yield run_of("three rounds", 0, ROUNDS, REFUTED)
     yield run_of("three rounds kept", 0, ROUNDS, REFUTED, saved=both, words=["--keep"])
@@ -118,12 +133,9 @@ def ends() -> Iterator[Named]:
                  others={"d/round-1.stream-2": BAD.replace("5", "6")})
 
 
-@each_of(ends())
-def test_ends(recheck: Recheck, wanted: Wanted, tmp_path: Path) -> None:
-    want_run(recheck, wanted, tmp_path)
-
-
-def sizes() -> Iterator[Named]:
+@runs
+def test_sizes() -> Iterator[Named]:
+    """Sizes of round 1; lrupd itself reads the sizes of later rounds."""
     yield run_of("sizes", 0, ROUNDS, REFUTED,
                  others={"d/round-1.sizes": "1 1 1\n", "d/round-2.sizes": "1 1 1\n",
                          "d/round-3.sizes": "1 1 0\n"})
@@ -154,12 +166,6 @@ def sizes() -> Iterator[Named]:
                               {"d/round-1.stream-2": "", "d/round-2.sizes": "1 1 0\n"})))
 
 
-@each_of(sizes())
-def test_sizes(recheck: Recheck, wanted: Wanted, tmp_path: Path) -> None:
-    """Sizes of round 1; lrupd itself reads the sizes of later rounds."""
-    want_run(recheck, wanted, tmp_path)
-
-
 @pytest.mark.parametrize("text", [
     "1 1 x", "1 x 1", "1 1 1 1", "1 -1 1", "1 1 -1", "1 1 1 --serial", "1 --serial x", "1 1 *",
     "1 1 $(id)", "1 \u0661 1"])
@@ -171,7 +177,9 @@ def test_refused_sizes(recheck: Recheck, text: str, tmp_path: Path) -> None:
     assert not (tmp_path / "d/round-2.cnf").exists()
 
 
-def in_the_way() -> Iterator[Named]:
+@runs
+def test_a_name_that_is_taken() -> Iterator[Named]:
+    """If a checkpoint can't be created, nothing is touched."""
     refused = "cannot create checkpoint"
     yield run_of("round-2.cnf is there", 5, ROUNDS, "", fault(1, refused), {2: OTHER},
                  others={"d/round-2.cnf": OTHER})
@@ -186,12 +194,6 @@ def in_the_way() -> Iterator[Named]:
         ["d", "absent"], 5, err="lrupd: cannot read formula\n", files=files(ROUNDS), left=left())
     yield run_of("a full disk", 9, ROUNDS, report([FOUND], 3), "lrupd: checkpoint not written\n",
                  {2: ""}, shell='ulimit -f 0; exec "$@"')
-
-
-@each_of(in_the_way())
-def test_a_name_that_is_taken(recheck: Recheck, wanted: Wanted, tmp_path: Path) -> None:
-    """If a checkpoint can't be created, nothing is touched."""
-    want_run(recheck, wanted, tmp_path)
 
 
 @pytest.mark.parametrize("how", ["> /dev/full", ">&-"])
@@ -272,8 +274,7 @@ def processes_in(folder: Path) -> List[str]:
 def test_a_signal_while_packed_streams_are_checked(recheck: Recheck, tmp_path: Path) -> None:
     """It comes while lrupd waits: no pipe and no process is left."""
     names = lay_packed(["xz", "gz"], tmp_path)
-    slow = written("#!/bin/sh\nexec sleep 1000\n", tmp_path, "slow")
-    slow.chmod(0o755)
+    slow = executable("exec sleep 1000", tmp_path, "slow")
     with started(recheck._replace(lrupd=str(slow)).command("d", "formula"), cwd=tmp_path,
                  stdout=subprocess.DEVNULL) as running:
         until("lrupd runs", lambda: "sleep" in processes_in(tmp_path))
@@ -369,9 +370,8 @@ def test_a_record_whose_formula_is_replaced(recheck: Recheck, tmp_path: Path) ->
     formula = lay_record(tmp_path)
     wanted = Ran(first_line("formula", formula) + REFUTED, "", 0)
     for name in ("sha256sum", "shasum", "openssl"):
-        tool = written(f"#!/bin/sh\n'{shutil.which('sha256sum')}' && echo > replaced.new && "
-                       f"mv replaced.new '{formula}'\n", tmp_path / "tools", name)
-        tool.chmod(0o755)
+        executable(f"'{shutil.which('sha256sum')}' && echo > replaced.new && "
+                   f"mv replaced.new '{formula}'", tmp_path / "tools", name)
     path = f"{tmp_path}/tools:{os.environ['PATH']}"
     want_answer(recheck, ["d"], wanted, tmp_path,
                 env={**os.environ, "TMPDIR": "temporary", "PATH": path})
@@ -439,7 +439,8 @@ def test_a_packed_record(recheck: Recheck, tmp_path: Path) -> None:
 # Arguments and names.
 
 
-def words() -> Iterator[Named]:
+@runs
+def test_words() -> Iterator[Named]:
     other = files(["3 0 1 2 0\n", ""], {"other": OTHER})
     misused: List[List[str]] = [
         [], ["--help"], ["-h"], ["--help", "d", "formula"], ["-x", "d", "formula"],
@@ -482,11 +483,6 @@ def words() -> Iterator[Named]:
                   files={"formula": FOUR, **many}))
 
 
-@each_of(words())
-def test_words(recheck: Recheck, wanted: Wanted, tmp_path: Path) -> None:
-    want_run(recheck, wanted, tmp_path)
-
-
 def test_where_lrupd_is(recheck: Recheck, tmp_path: Path) -> None:
     """lrupd is looked for in the script's folder, and then on the PATH."""
     lay(tmp_path)
@@ -513,8 +509,7 @@ def test_another_lrupd(recheck: Recheck, tmp_path: Path) -> None:
     """The status and the output are those of the program in lrupd's place."""
     lay(tmp_path)
     for status in range(256):
-        written(f"#!/bin/sh\necho s UNSATISFIABLE; echo said >&2; exit {status}\n", tmp_path,
-                "lrupd").chmod(0o755)
+        executable(f"echo s UNSATISFIABLE; echo said >&2; exit {status}", tmp_path, "lrupd")
         done = recheck._replace(lrupd="./lrupd")(["d", "formula"], cwd=tmp_path)
         assert done == Ran("s UNSATISFIABLE\n", "said\n", status)
 
@@ -524,7 +519,7 @@ def test_another_lrupd(recheck: Recheck, tmp_path: Path) -> None:
 def test_status_0_is_no_verdict(recheck: Recheck, body: str, out: str, tmp_path: Path) -> None:
     """It has to come with the verdict of lrupd. Nothing is removed."""
     lay(tmp_path, others={"d/round-2.cnf": OTHER})
-    written(f"#!/bin/sh\n{body}\n", tmp_path, "lrupd").chmod(0o755)
+    executable(body, tmp_path, "lrupd")
     done = recheck._replace(lrupd="./lrupd")(["d", "formula"], cwd=tmp_path)
     said = "lrup-recheck: ./lrupd ended with status 0, but without the verdict of lrupd\n"
     assert done == Ran(out, said, 1)
@@ -653,7 +648,6 @@ def test_a_forged_checkpoint(recheck: Recheck, formula: str, forgery: Optional[s
 # Wrong scripts, each with a test that has to fail. A text names a run of the tables.
 
 
-RUNS = dict([*ends(), *sizes(), *in_the_way(), *words()])
 WRONG = [
     ("exec \"$lrupd\" \"$@\"", 'exec "$lrupd" "$@" 2> /dev/null', test_another_lrupd),
     ("status=$?", "status=$?; [ $status -ne 9 ] || status=3", "a full disk"),

@@ -15,7 +15,7 @@ from typing import Any, Dict, List, Sequence
 
 import pytest
 
-from harness import BIN, OUT, ROOT, Ran, run, started, text_of, until, written
+from harness import BIN, OUT, ROOT, Ran, executable, run, started, text_of, until, written
 
 LIMIT = 600
 # Where rt leaves the programs.
@@ -24,7 +24,6 @@ PROVED = {"lrupd": "crates/lrupd/out/lrupd",
 # A rt that proves nothing. `rt ci` removes what was built, as the real one does, and ends as its
 # word in the file `ci` says.
 FALSE_RT = """\
-#!/bin/sh
 top=$(cd "$(dirname "$0")" && pwd)
 case "$*" in
     ci) rm -rf "$top"/tree/crates/*/out; sleep "$(cat "$top/seconds")"; cat "$top/ci"
@@ -74,9 +73,7 @@ def false_rt(tested: Dict[str, str], tmp_path: Path) -> Path:
         shutil.copy2(path, tmp_path / Path(PROVED[name]).name)
     written("1 passed, 0 failed\n", tmp_path, "ci")
     written("0", tmp_path, "seconds")
-    rt = written(FALSE_RT, tmp_path, "rt")
-    rt.chmod(0o755)
-    return rt
+    return executable(FALSE_RT, tmp_path, "rt")
 
 
 def make(tree: Path, rt: object, target: str) -> List[str]:

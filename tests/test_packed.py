@@ -9,7 +9,7 @@ from typing import Callable, Dict, List
 
 import pytest
 
-from harness import EXPLAIN, FILTER, PACKERS, TRIM, Ran, example, pack, run, written
+from harness import EXPLAIN, FILTER, PACKERS, TRIM, Ran, example, output_of, pack, run, written
 from solving import SOLVE, check_again
 
 pytestmark = pytest.mark.usefixtures("lrup_solve")
@@ -39,9 +39,8 @@ def test_lrup_exact(ending: str, tmp_path: Path) -> None:
     # Without hints, so that the filter has something to find.
     steps = re.findall(r"^\d+ ((?:-?[1-9]\d* )*0) .*", proof.read_text(), re.M)
     proof.write_text("".join(f"{step}\n" for step in steps))
-    plain = run([FILTER, formula, proof])
-    assert (plain.err, plain.status) == ("", 0)
-    assert run([FILTER, packed(formula, ending), packed(proof, ending)]) == plain
+    plain = output_of(run([FILTER, formula, proof]))
+    assert output_of(run([FILTER, packed(formula, ending), packed(proof, ending)])) == plain
 
 
 def test_another_stream_of_lrup_exact(ending: str, tmp_path: Path) -> None:
@@ -50,9 +49,8 @@ def test_another_stream_of_lrup_exact(ending: str, tmp_path: Path) -> None:
                for number in (1, 2)]
     words = [FILTER, "--stream", 1, "--streams", 2, "--other"]
     rest = [example("pigeonhole.cnf"), streams[0]]
-    plain = run([*words, f"2={streams[1]}", *rest])
-    assert (plain.err, plain.status) == ("", 0)
-    assert run([*words, f"2={packed(streams[1], ending)}", *rest]) == plain
+    plain = output_of(run([*words, f"2={streams[1]}", *rest]))
+    assert output_of(run([*words, f"2={packed(streams[1], ending)}", *rest])) == plain
 
 
 def test_lrup_explain(ending: str, tmp_path: Path) -> None:
@@ -72,13 +70,11 @@ def test_lrup_trim(program: str, ending: str, tmp_path: Path) -> None:
     plain = core.read_text(), lrat.read_text()
     core.unlink()
     lrat.unlink()
-    done = run([*words, packed(formula, ending), packed(stream, ending)], cwd=tmp_path)
-    assert (done.err, done.status) == ("", 0)
+    out = output_of(run([*words, packed(formula, ending), packed(stream, ending)], cwd=tmp_path))
     assert (core.read_text(), lrat.read_text()) == plain
-    command = done.out.splitlines()[-1].split(": ")[-1]
+    command = out.splitlines()[-1].split(": ")[-1]
     checked = run(["bash", "-c", command.replace("lrupd", program, 1)], cwd=tmp_path)
-    assert (checked.err, checked.status) == ("", 0)
-    assert checked.out.splitlines()[-1] == "s UNSATISFIABLE"
+    assert output_of(checked).splitlines()[-1] == "s UNSATISFIABLE"
 
 
 def test_a_records_formula(program: str, ending: str, tmp_path: Path) -> None:
@@ -178,7 +174,7 @@ def test_not_compressed(program: str, tool: Path, ending: str, tmp_path: Path) -
     assert done.err.splitlines()[-1] == said
 
 
-@pytest.mark.parametrize("tool", [FILTER, CHECK], ids=NAME)
+@pytest.mark.parametrize("tool", [FILTER, TRIM, EXPLAIN, CHECK], ids=NAME)
 def test_without_the_unpacking_program(program: str, tool: Path, ending: str,
                                        tmp_path: Path) -> None:
     formula, stream = copied(tmp_path)

@@ -11,8 +11,8 @@ from typing import Any, Dict, Iterator, List, Tuple
 
 import pytest
 
-from harness import (FOUR, ROOT, SMALL_ROW, Pieces, Wanted, answered, answers, each_of,
-                     example, report, small, started, written)
+from harness import (FOUR, ROOT, SMALL_ROW, VERSION, Pieces, Wanted, answered, answers, example,
+                     report, runs, small, started, write_all)
 
 sys.path.append(str(ROOT / "gate"))
 import interface
@@ -60,15 +60,11 @@ def assumed(name: str, status: int, text: str, options: str) -> Named:
     return f"{name} {options}", Wanted(words, status, report([ADDED], status), files={"cube": text})
 
 
-def refused_cube(fault: str, text: str) -> Named:
-    return fault, Wanted(["--assume", "cube", *ASSUMED], 4,
-                         err=f"lrupd: assumptions refused: {fault}\n", files={"cube": text})
-
-
 # Tables of runs.
 
 
-def examples() -> Iterator[Named]:
+@runs
+def test_examples() -> Iterator[Named]:
     yield recorded("four-clause", "", "four-clause.cnf", "four-clause.lrup")
     yield recorded("pigeonhole", "", "pigeonhole.cnf", "pigeonhole.lrup")
     yield recorded("bmc", "", "bmc.cnf", "bmc.lrup")
@@ -78,12 +74,10 @@ def examples() -> Iterator[Named]:
         yield recorded("bmc-four", options, "bmc.cnf", *FOUR_SOLVERS)
 
 
-@each_of(examples())
-def test_examples(program: str, wanted: Wanted, tmp_path: Path) -> None:
-    answers(program, wanted, tmp_path)
-
-
-def one_stream() -> Iterator[Named]:
+@runs
+def test_one_stream() -> Iterator[Named]:
+    """Streams over the four clauses of two literals: each assignment makes one of these clauses
+    false."""
     yield streams("two additions", "", 0, BOTH_ADDED, TWO)
     yield streams("a bad line after the empty clause", "", 0,
                   "2 added, 0 deleted, bad line 3 (no conflict)", TWO + "7 2 0 1 0\n")
@@ -93,14 +87,8 @@ def one_stream() -> Iterator[Named]:
     yield streams("imports of the formula", "", 0, BOTH_ADDED, f"1 i 2 1 1 0\n{TWO}2 i -1 2 0\n")
 
 
-@each_of(one_stream())
-def test_one_stream(program: str, wanted: Wanted, tmp_path: Path) -> None:
-    """Streams over the four clauses of two literals: each assignment makes one of these clauses
-    false."""
-    answers(program, wanted, tmp_path)
-
-
-def several_streams() -> Iterator[Named]:
+@runs
+def test_several_streams() -> Iterator[Named]:
     other = "6 -2 0 3 4 0\n"
     yield streams("a stream that adds nothing", "", 3, "0 added, 0 deleted, bad line 1 (identity)",
                   "6 2 0 1 2 0\n", "0 added, 0 deleted, ended", "")
@@ -129,12 +117,10 @@ def several_streams() -> Iterator[Named]:
     yield streams("64 streams", "--lines 1 --room 1", 3, *(word for pair in many for word in pair))
 
 
-@each_of(several_streams())
-def test_several_streams(program: str, wanted: Wanted, tmp_path: Path) -> None:
-    answers(program, wanted, tmp_path)
-
-
-def pipes() -> Iterator[Named]:
+@runs
+def test_pipes() -> Iterator[Named]:
+    """Pipes that are opened in the order of the arguments, and written while they are checked; also
+    a file named twice, and a folder."""
     both: Dict[str, Pieces] = {"pipe1": [b"5 2 0 1 2 0\n7", 0.2, b" 0 5 6 0\n"],
                                "pipe2": [b"6 -2 0 3", 0.1, b" 4 0\n"]}
     yield "two pipes", Wanted([*SMALL_ROW, "--tries", "1000000", "formula", "pipe1", "pipe2"], 0,
@@ -150,14 +136,9 @@ def pipes() -> Iterator[Named]:
     yield "a folder as the stream", Wanted(["formula", "."], 3, unread, files=FILES)
 
 
-@each_of(pipes())
-def test_pipes(program: str, wanted: Wanted, tmp_path: Path) -> None:
-    """Pipes that are opened in the order of the arguments, and written while they are checked; also
-    a file named twice, and a folder."""
-    answers(program, wanted, tmp_path)
-
-
-def paths() -> Iterator[Named]:
+@runs
+def test_paths() -> Iterator[Named]:
+    """A path is taken literally: a hyphen isn't standard input, and spaces are kept."""
     absent = [("a formula at a hyphen that is not there", "lrupd: cannot read formula\n",
                ["-", "one"]),
               ("a stream at a hyphen that is not there", "lrupd: cannot open stream 1\n",
@@ -175,13 +156,9 @@ def paths() -> Iterator[Named]:
                                                  files=spaced, given=TWO)
 
 
-@each_of(paths())
-def test_paths(program: str, wanted: Wanted, tmp_path: Path) -> None:
-    """A path is taken literally: a hyphen isn't standard input, and spaces are kept."""
-    answers(program, wanted, tmp_path)
-
-
-def refused_files() -> Iterator[Named]:
+@runs
+def test_refused_files() -> Iterator[Named]:
+    """The order in which arguments, formula and streams are checked."""
     yield refused("cannot read formula", 5, "absent", "one")
     yield refused("cannot read formula", 5, "absent", "absent")
     yield refused("cannot read formula", 5, ".", "one")
@@ -195,18 +172,12 @@ def refused_files() -> Iterator[Named]:
         yield refused("stream count", 2, "formula", *["one"] * count)
 
 
-@each_of(refused_files())
-def test_refused_files(program: str, wanted: Wanted, tmp_path: Path) -> None:
-    """The order in which arguments, formula and streams are checked."""
-    answers(program, wanted, tmp_path)
-
-
 def test_version(program: str, tmp_path: Path) -> None:
-    said = f"lrupd {(ROOT / 'VERSION').read_text().strip()}\n"
-    answers(program, Wanted(["--version"], 2, err=said), tmp_path)
+    answers(program, Wanted(["--version"], 2, err=f"lrupd {VERSION}\n"), tmp_path)
 
 
-def assumptions() -> Iterator[Named]:
+@runs
+def test_assumptions() -> Iterator[Named]:
     for options in WAYS:
         yield assumed("a clause within the cube", 8, "-2 0\n", options)
         yield assumed("the clause itself assumed", 3, "2 0\n", options)
@@ -223,25 +194,21 @@ def assumptions() -> Iterator[Named]:
                                           pipes={"pipe": [b"-2", 0.1, b" 0\n"]})
 
 
-@each_of(assumptions())
-def test_assumptions(program: str, wanted: Wanted, tmp_path: Path) -> None:
-    answers(program, wanted, tmp_path)
-
-
-def refused_assumptions() -> Iterator[Named]:
-    yield refused_cube("variable out of range", "3 0\n")
+@runs
+def test_refused_assumptions() -> Iterator[Named]:
+    fault = "assumptions refused: variable out of range"
+    yield fault, Wanted(["--assume", "cube", *ASSUMED], 4, err=f"lrupd: {fault}\n",
+                        files={"cube": "3 0\n"})
     yield refused("cannot read assumptions", 5, "--assume", "absent", "formula", "absent")
     yield refused("cannot read assumptions", 5, "--assume", ".", "formula", "one")
     yield refused("formula refused: bad header", 4, "--assume", "absent", "refused", "one")
     yield refused("cannot open stream 1", 5, "--assume", CUBE, "formula", "absent")
 
 
-@each_of(refused_assumptions())
-def test_refused_assumptions(program: str, wanted: Wanted, tmp_path: Path) -> None:
-    answers(program, wanted, tmp_path)
-
-
-def watched() -> Iterator[Named]:
+@runs
+def test_watched() -> Iterator[Named]:
+    """With --watch, standard error has lines during the run; standard output and the status are the
+    same."""
     said = ["0 added, 0 deleted, bad line 1 (spelling)", "0 added, 0 deleted, ended"]
     lines = "".join(f"lrupd: stream {number}: {words}\n" for number, words in enumerate(said, 1))
     words = [*SMALL_ROW, "--watch", "--serial", "formula", "stream", "/dev/null"]
@@ -256,14 +223,10 @@ def watched() -> Iterator[Named]:
     yield refused("cannot open stream 2", 5, "--watch", "formula", "one", "absent")
 
 
-@each_of(watched())
-def test_watched(program: str, wanted: Wanted, tmp_path: Path) -> None:
-    """With --watch, standard error has lines during the run; standard output and the status are the
-    same."""
-    answers(program, wanted, tmp_path)
-
-
-def large() -> Iterator[Named]:
+@runs
+def test_large() -> Iterator[Named]:
+    """The marks of 16,000,000 variables, a set of 1,100,000 dropped identities, and a row with room
+    for 16,000,000 literals; streams longer than a ring: 200,000 line ends, and 20,000 lines."""
     yield streams("16,000,000 variables", "", 3, ADDED, "2 16000000 0 1 0\n",
                   formula="p cnf 16000000 1\n16000000 0\n")
     drops = lambda: "".join(f"5 d {identity} 0\n" for identity in range(6, 2200005, 2))
@@ -279,14 +242,11 @@ def large() -> Iterator[Named]:
                       "20000 added, 0 deleted, ended", lines)
 
 
-@each_of(large())
-def test_large(program: str, wanted: Wanted, tmp_path: Path) -> None:
-    """The marks of 16,000,000 variables, a set of 1,100,000 dropped identities, and a row with room
-    for 16,000,000 literals; streams longer than a ring: 200,000 line ends, and 20,000 lines."""
-    answers(program, wanted, tmp_path)
-
-
-def largest() -> Iterator[Named]:
+@pytest.mark.usefixtures("much_memory")
+@runs
+def test_largest() -> Iterator[Named]:
+    """Up to 2 GB: a row with room for 110,000,000 literals, and a formula of more than 1 GB, which
+    has one long comment before the four clauses."""
     for options in WAYS:
         yield streams(f"a room of 110,000,000 literals {options}", f"--room 110000000 {options}", 0,
                       BOTH_ADDED, TWO)
@@ -295,15 +255,9 @@ def largest() -> Iterator[Named]:
                                                      files=FILES, pipes={"pipe": pieces})
 
 
-@pytest.mark.usefixtures("much_memory")
-@each_of(largest())
-def test_largest(program: str, wanted: Wanted, tmp_path: Path) -> None:
-    """Up to 2 GB: a row with room for 110,000,000 literals, and a formula of more than 1 GB, which
-    has one long comment before the four clauses."""
-    answers(program, wanted, tmp_path)
-
-
-def little_memory() -> Iterator[Named]:
+@runs
+def test_little_memory() -> Iterator[Named]:
+    """The program runs in a small address space, with stacks of 8 MB."""
     within = 'ulimit -s 8192 && ulimit -v {} && exec "$@"'
     yield refused("out of memory", 6, "--room", "268000000", "formula", "one",
                   shell=within.format(1000000))
@@ -311,13 +265,9 @@ def little_memory() -> Iterator[Named]:
                   shell=within.format(9000))
 
 
-@each_of(little_memory())
-def test_little_memory(program: str, wanted: Wanted, tmp_path: Path) -> None:
-    """The program runs in a small address space, with stacks of 8 MB."""
-    answers(program, wanted, tmp_path)
-
-
-def full_outputs() -> Iterator[Named]:
+@runs
+def test_full_outputs() -> Iterator[Named]:
+    """If standard error can't be written, the status is the same."""
     cut = "lrupd: cannot write report\n"
     for name, shell, status, words, err in [
             ("a full output", 'exec "$@" > /dev/full', 7, ["formula", "one"], cut),
@@ -326,12 +276,6 @@ def full_outputs() -> Iterator[Named]:
             ("a full standard error for help", 'exec "$@" 2> /dev/full', 2, ["--help"], ""),
             ("both full", 'exec "$@" > /dev/full 2> /dev/full', 7, ["formula", "one"], "")]:
         yield name, Wanted(words, status, err=err, files=FILES, shell=shell)
-
-
-@each_of(full_outputs())
-def test_full_outputs(program: str, wanted: Wanted, tmp_path: Path) -> None:
-    """If standard error can't be written, the status is the same."""
-    answers(program, wanted, tmp_path)
 
 
 # Messages that aren't compared literally, and --watch.
@@ -394,9 +338,7 @@ def test_a_watched_line_is_one_write(program: str, way: List[str], words: str, l
                                      tmp_path: Path) -> None:
     """There is a line at the end of each stream in each round, and one at the start of each round
     but the first. A packet socket keeps writes apart."""
-    for name, text in {**FILES, "d/round-1.stream-1": ONE,
-                       "d/round-2.stream-1": "6 0 5 3 4 0\n"}.items():
-        written(text, tmp_path, name)
+    write_all({**FILES, "d/round-1.stream-1": ONE, "d/round-2.stream-1": "6 0 5 3 4 0\n"}, tmp_path)
     reader, writer = socket.socketpair(socket.AF_UNIX, socket.SOCK_SEQPACKET)
     command = [program, "--watch", *way, *SMALL_ROW, *words.split()]
     with reader, started(command, cwd=tmp_path, stdout=subprocess.DEVNULL, stderr=writer):

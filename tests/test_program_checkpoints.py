@@ -12,8 +12,8 @@ from typing import Dict, Iterator, List, Optional, Sequence, Tuple
 import pytest
 
 from checkpoints import MOST_CLAUSES, live, most_clauses, printed, variables_of, want_checkpoint
-from harness import (FOUR, SMALL_ROW, Ran, Wanted, answered, answers, each_of, enough_for, example,
-                     held, report, run, run_by_another, small, within, written)
+from harness import (FOUR, RECORDED, SMALL_ROW, Ran, Wanted, answered, enough_for, example, held,
+                     report, run, run_by_another, runs_in_both_ways, small, within, written)
 
 ONE, TWO = "5 2 0 1 2 0\n", "5 2 0 1 2 0\n6 0 5 3 4 0\n"
 DROPPING = "5 2 0 1 2 0\n7 d 1 0\n"
@@ -43,7 +43,8 @@ def saved(name: str, status: int, said: Sequence[str], texts: Sequence[str], wan
                         left={"saved": wanted, "formula": formula})
 
 
-def one_stream() -> Iterator[Named]:
+@runs_in_both_ways
+def test_one_stream() -> Iterator[Named]:
     yield saved("an addition and a drop", 3, ["1 added, 1 deleted, ended"], [DROPPING],
                 SAVED_DROPPING)
     yield saved("nothing", 3, [NOTHING], [""], SAVED_FOUR)
@@ -72,12 +73,9 @@ def one_stream() -> Iterator[Named]:
                 options="--assume cube")
 
 
-@each_of(one_stream())
-def test_one_stream(program: str, way: List[str], wanted: Wanted, tmp_path: Path) -> None:
-    answers(program, wanted.under(way), tmp_path)
-
-
-def formulas() -> Iterator[Named]:
+@runs_in_both_ways
+def test_formulas() -> Iterator[Named]:
+    """Only the clauses of a formula are kept."""
     yield saved("no clauses", 3, [NOTHING], [""], "p cnf 0 0\n", formula="p cnf 0 0\n")
     yield saved("no clauses of many variables", 3, [NOTHING], [""], "p cnf 16777215 0\n",
                 formula="p cnf 16777215 0\n")
@@ -98,13 +96,10 @@ def formulas() -> Iterator[Named]:
                 formula="p cnf 16777215 1\n-16777215 0\n")
 
 
-@each_of(formulas())
-def test_formulas(program: str, way: List[str], wanted: Wanted, tmp_path: Path) -> None:
-    """Only the clauses of a formula are kept."""
-    answers(program, wanted.under(way), tmp_path)
-
-
-def several_streams() -> Iterator[Named]:
+@runs_in_both_ways
+def test_several_streams() -> Iterator[Named]:
+    """Clauses that all streams dropped are left out, but not those that only some dropped;
+    identities are in order, no matter who owns them."""
     both = ["5 d 1 2 0\n", "6 d 3 1 0\n"]
     kept = "c id 2\n-1 2 0\nc id 3\n1 -2 0\nc id 4\n-1 -2 0\n"
     yield saved("what both streams have dropped", 3, ["0 added, 2 deleted, ended"] * 2, both,
@@ -129,17 +124,11 @@ def several_streams() -> Iterator[Named]:
                 "p cnf 2 67\n" + kept + derived)
 
 
-@each_of(several_streams())
-def test_several_streams(program: str, way: List[str], wanted: Wanted, tmp_path: Path) -> None:
-    """Clauses that all streams dropped are left out, but not those that only some dropped;
-    identities are in order, no matter who owns them."""
-    answers(program, wanted.under(way), tmp_path)
-
-
 # Checkpoints that aren't created: nothing is touched.
 
 
-def not_created() -> Iterator[Named]:
+@runs_in_both_ways
+def test_a_checkpoint_that_is_not_created() -> Iterator[Named]:
     links = 'ln -s absent dangling; ln -s one link; mkdir folder; exec "$@"'
     left: Dict[str, Optional[str]] = {**FILES, "absent": None, "saved": None}
     for path in ["one", "formula", "dropping", "/dev/full", "/dev/null", ".", "link", "dangling",
@@ -148,13 +137,9 @@ def not_created() -> Iterator[Named]:
                                      err=NOT_CREATED, files=FILES, shell=links, left=left)
 
 
-@each_of(not_created())
-def test_a_checkpoint_that_is_not_created(program: str, way: List[str], wanted: Wanted,
-                                          tmp_path: Path) -> None:
-    answers(program, wanted.under(way), tmp_path)
-
-
-def order_of_work() -> Iterator[Named]:
+@runs_in_both_ways
+def test_the_order_of_work() -> Iterator[Named]:
+    """The file is created once everything has been opened and there is a layout."""
     refused = {**FILES, "refused": "p cnf 1\n", "cube": "-2  0\n"}
     for cause, status, words in [
             ("cannot read formula", 5, ["absent", "one"]),
@@ -168,12 +153,6 @@ def order_of_work() -> Iterator[Named]:
             yield (f"{cause}, {path}",
                    Wanted(["--checkpoint", path, *words], status, err=f"lrupd: {cause}\n",
                           files=refused, left={path: left}))
-
-
-@each_of(order_of_work())
-def test_the_order_of_work(program: str, way: List[str], wanted: Wanted, tmp_path: Path) -> None:
-    """The file is created once everything has been opened and there is a layout."""
-    answers(program, wanted.under(way), tmp_path)
 
 
 def test_a_checkpoint_is_created_before_the_check(program: str, way: List[str],
@@ -198,7 +177,8 @@ def test_usage(program: str, words: str, tmp_path: Path) -> None:
 # Saving or the report fails.
 
 
-def watched() -> Iterator[Named]:
+@runs_in_both_ways
+def test_watched() -> Iterator[Named]:
     told = Wanted(["--watch", "--checkpoint", "saved", "formula", "dropping"], 3,
                   report(["1 added, 1 deleted, ended"], 3),
                   "lrupd: stream 1: 1 added, 1 deleted, ended\n", files=FILES,
@@ -208,12 +188,8 @@ def watched() -> Iterator[Named]:
            told._replace(err="", shell='exec "$@" <&- 2>&-'))
 
 
-@each_of(watched())
-def test_watched(program: str, way: List[str], wanted: Wanted, tmp_path: Path) -> None:
-    answers(program, wanted.under(way), tmp_path)
-
-
-def full() -> Iterator[Named]:
+@runs_in_both_ways
+def test_full_outputs() -> Iterator[Named]:
     none = 'trap "" XFSZ; ulimit -f 0; exec "$@"'
     words = [*SMALL_ROW, "--checkpoint", "saved", "formula", "one"]
     unsaved = Wanted(words, 9, report([ADDED], 3), NOT_WRITTEN, files=FILES, shell=none,
@@ -230,11 +206,6 @@ def full() -> Iterator[Named]:
     unreported = unsaved._replace(status=7, out="", err=NO_REPORT, left={"saved": SAVED_ONE})
     yield "a full output", unreported._replace(shell='exec "$@" > /dev/full')
     yield "a closed output", unreported._replace(shell='exec "$@" >&-')
-
-
-@each_of(full())
-def test_full_outputs(program: str, way: List[str], wanted: Wanted, tmp_path: Path) -> None:
-    answers(program, wanted.under(way), tmp_path)
 
 
 def want_refused(program: str, torn: Path) -> None:
@@ -315,15 +286,9 @@ def test_the_most_clauses(program: str, count: int, fault: str, tmp_path: Path) 
 # Checkpoints of recorded streams.
 
 
-RECORDED = [("pigeonhole.cnf", ["pigeonhole.lrup"]), ("bmc.cnf", ["bmc.lrup"]),
-            ("pigeonhole.cnf", ["pigeonhole-two.1", "pigeonhole-two.2"]),
-            ("bmc.cnf", [f"bmc-four.{number}" for number in range(1, 5)]),
-            ("two-groups.cnf", [f"two-groups.{number}" for number in range(1, 5)])]
-
-
 @pytest.mark.parametrize("part", [0.1, 0.3, 0.5])
 @pytest.mark.parametrize("formula, names", [pytest.param(formula, names, id=names[0])
-                                            for formula, names in RECORDED])
+                                            for formula, names in RECORDED[1:]])
 def test_recorded(program: str, way: List[str], formula: str, names: List[str], part: float,
                   tmp_path: Path) -> None:
     """Runs the first lines of each stream, so that none derives the empty clause. Another run, over

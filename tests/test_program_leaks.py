@@ -4,7 +4,7 @@ from typing import List, Sequence, Tuple
 
 import pytest
 
-from harness import SMALL_ROW, enough_for, example, needs, run, written
+from harness import SMALL_ROW, enough_for, example, needs, run, write_all
 from rounds import ONE, TWO, Texts, first_words, round_files
 
 VALGRIND = ["valgrind", "--quiet", "--error-exitcode=99", "--leak-check=full",
@@ -51,8 +51,7 @@ def test_one_round(program: str, way: List[str], status: int, words: Sequence[ob
 def test_rounds(program: str, way: List[str], status: int, texts: Texts, sizes: str,
                 tmp_path: Path) -> None:
     """Round 2 has these sizes."""
-    for name, text in {**round_files(texts), "d/round-2.sizes": sizes}.items():
-        written(text, tmp_path, name)
+    write_all({**round_files(texts), "d/round-2.sizes": sizes}, tmp_path)
     words = ["--tries", "1000000", *SMALL_ROW, *way, *first_words(texts)]
     want_freed(program, status, words, tmp_path)
 

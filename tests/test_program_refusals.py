@@ -17,7 +17,7 @@ from typing import Iterable, Iterator, List, NamedTuple, Optional, Sequence, Set
 import pytest
 
 from harness import (BUILDS, EXAMPLES, FOUR, ROOT, RT, SMALL_ROW, SUPPORT, alone, compiled,
-                     enough_for, lacking, piped, report, run, waiting)
+                     enough_for, lacking, piped, report, run, waiting, write_all)
 from refused import (ERRORS_OF_READS, FOUR_CLAUSE, SECONDS, SHORT, Answer, Input, InRounds, Machine,
                      complaints, complaints_in_rounds, is_right, not_started)
 from rounds import ONE, TWO, Proof
@@ -170,7 +170,7 @@ def run_twice(machine: Machine, given: Input, refuse: str) -> Tuple[Answer, bool
 def sweep(machine: Machine, given: Input, kind: str, how: str = "") -> int:
     """Refuses each call of this kind in turn. Each answer is right, there are as many refusals as
     there may be, and messages that have to come do come. Returns how many calls were refused."""
-    machine.lay(given)
+    write_all(given.files, machine.folder)
     ample, _, _ = run_twice(machine, given, "")
     wrong: List[str] = []
     answers: List[Answer] = []

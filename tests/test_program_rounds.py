@@ -13,8 +13,9 @@ from typing import Any, Callable, Dict, Iterator, List, Sequence
 import pytest
 
 from checkpoints import printed
-from harness import (FOUR, LIMIT, SMALL_ROW, Pieces, Ran, Wanted, answered, answers, dimacs,
-                     each_of, held, piped, read_from, run, small, started, until, waiting, written)
+from harness import (FOUR, LIMIT, SMALL_ROW, Pieces, Ran, Wanted, answered, dimacs, held, piped,
+                     read_from, run, runs_in_both_ways, small, started, until, waiting, write_all,
+                     written)
 from rounds import (ADDED, BAD, BAD_SAID, DERIVING, NOTHING, ONE, OTHER, REFUTING, SAVED, SAVED_ONE,
                     TRIES, TWO, Named, Proof, Texts, dropped_first, fault, first_words, last, plain,
                     round_files, rounds, saved_name, stream_name)
@@ -27,7 +28,8 @@ HEARD: Dict[str, Any] = {"stdout": subprocess.PIPE, "stderr": subprocess.PIPE, "
 # Ends.
 
 
-def ends() -> Iterator[Named]:
+@runs_in_both_ways
+def test_ends() -> Iterator[Named]:
     for proof, count in (ONE, "one"), (TWO, "two"):
         texts, said, saved = proof
         yield rounds(f"three rounds, {count}", 0, texts, last(3, said[2], 0),
@@ -56,12 +58,9 @@ def ends() -> Iterator[Named]:
                  do="ln -s absent d/round-2.stream-1; ")
 
 
-@each_of(ends())
-def test_ends(program: str, way: List[str], wanted: Wanted, tmp_path: Path) -> None:
-    answers(program, wanted.under(way), tmp_path)
-
-
-def places() -> Iterator[Named]:
+@runs_in_both_ways
+def test_places() -> Iterator[Named]:
+    """The folder is a path like any other, and so are the arguments of round 1."""
     texts, said, saved = ONE
     given = round_files(texts)
     for folder, do in (("d/", ""), ("./d", ""), ("d//", ""), ("link", "ln -s d link; "),
@@ -86,13 +85,10 @@ def places() -> Iterator[Named]:
                   given=texts[0][0], left={saved_name(2): saved[0]}))
 
 
-@each_of(places())
-def test_places(program: str, way: List[str], wanted: Wanted, tmp_path: Path) -> None:
-    """The folder is a path like any other, and so are the arguments of round 1."""
-    answers(program, wanted.under(way), tmp_path)
-
-
-def formulas() -> Iterator[Named]:
+@runs_in_both_ways
+def test_formulas() -> Iterator[Named]:
+    """Only the clauses and the header's variables are carried over; the next identities follow the
+    numbers of the checkpoint's clauses."""
     def formula(text: str) -> Dict[str, str]:
         return {"formula": text}
 
@@ -137,14 +133,10 @@ def formulas() -> Iterator[Named]:
         last(2, [ADDED] * 2, 3), saved=[seven, seven.replace("2 7", "2 9") + "2 0\n2 0\n"])
 
 
-@each_of(formulas())
-def test_formulas(program: str, way: List[str], wanted: Wanted, tmp_path: Path) -> None:
-    """Only the clauses and the header's variables are carried over; the next identities follow the
-    numbers of the checkpoint's clauses."""
-    answers(program, wanted.under(way), tmp_path)
-
-
-def assumptions() -> Iterator[Named]:
+@runs_in_both_ways
+def test_assumptions() -> Iterator[Named]:
+    """Assumptions hold in each round; a round that refutes the formula under them is the
+    last."""
     def under(name: str, cube: str, status: int, texts: Texts, out: str,
               saved: Sequence[str]) -> Named:
         return rounds(f"under {name}", status, texts, out, saved=saved,
@@ -177,14 +169,9 @@ def assumptions() -> Iterator[Named]:
                  options="--assume pipe", pipes={"pipe": [b"-1", b" 0\n"]})
 
 
-@each_of(assumptions())
-def test_assumptions(program: str, way: List[str], wanted: Wanted, tmp_path: Path) -> None:
-    """Assumptions hold in each round; a round that refutes the formula under them is the
-    last."""
-    answers(program, wanted.under(way), tmp_path)
-
-
-def wrong_lines() -> Iterator[Named]:
+@runs_in_both_ways
+def test_wrong_lines() -> Iterator[Named]:
+    """The round with a wrong line is the last one, and its checkpoint is there."""
     for number in 1, 2, 3:
         before = [FOUR, *ONE.saved][number - 1]
         saved = [*ONE.saved[:number - 1], plain(before)]
@@ -219,12 +206,6 @@ def wrong_lines() -> Iterator[Named]:
                  out=last(2, ["1 added, 0 deleted, bad line 2 (truncated)"], 3))
 
 
-@each_of(wrong_lines())
-def test_wrong_lines(program: str, way: List[str], wanted: Wanted, tmp_path: Path) -> None:
-    """The round with a wrong line is the last one, and its checkpoint is there."""
-    answers(program, wanted.under(way), tmp_path)
-
-
 # Pipes.
 
 
@@ -235,7 +216,8 @@ def late(name: str, text: str, seconds: float = 0.3) -> str:
             f"{seconds}; cat late > {name}) & ")
 
 
-def pipes() -> Iterator[Named]:
+@runs_in_both_ways
+def test_pipes() -> Iterator[Named]:
     texts, said, saved = TWO
     end = last(3, said[2], 0)
     streams = {stream_name(number, stream): [text.encode()]
@@ -264,16 +246,9 @@ def pipes() -> Iterator[Named]:
                      do=late(name, "2 9 9"), gone=gone)
 
 
-@each_of(pipes())
-def test_pipes(program: str, way: List[str], wanted: Wanted, tmp_path: Path) -> None:
-    answers(program, wanted.under(way), tmp_path)
-
-
 def lay(texts: Texts, folder: Path) -> None:
     """Puts the formula and the rounds' streams there."""
-    folder.mkdir(exist_ok=True)
-    for name, text in round_files(texts).items():
-        written(text, folder, name)
+    write_all(round_files(texts), folder)
 
 
 def test_a_checkpoint_is_whole_once_the_next_sizes_are_opened(program: str, way: List[str],

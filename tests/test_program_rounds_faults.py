@@ -9,8 +9,8 @@ from typing import Any, Dict, Iterator, List
 import pytest
 
 from checkpoints import MOST_CLAUSES, most_clauses
-from harness import (FOUR, SMALL_ROW, Ran, Wanted, answers, each_of, run, run_by_another, within,
-                     written)
+from harness import (FOUR, SMALL_ROW, Ran, Wanted, run, run_by_another, runs_in_both_ways, within,
+                     write_all, written)
 from rounds import (ADDED, BAD, BAD_SAID, NOTHING, ONE, OTHER, REFUTING, SAVED, SAVED_ONE, TRIES,
                     TWO, Named, dropped_first, fault, first_words, last, round_files, rounds,
                     saved_name, stream_name)
@@ -39,7 +39,8 @@ def stopped(number: int, cause: str, status: int, why: str = "", proof: str = "t
                   saved=saved[:number - 1], **how)
 
 
-def unopened() -> Iterator[Named]:
+@runs_in_both_ways
+def test_unopened() -> Iterator[Named]:
     for number in 1, 2, 3:
         for stream in 1, 2:
             name, cause = stream_name(number, stream), f"cannot open stream {stream}"
@@ -71,12 +72,9 @@ def unopened() -> Iterator[Named]:
                       left={saved_name(2): SAVED, saved_name(3): None}))
 
 
-@each_of(unopened())
-def test_unopened(program: str, way: List[str], wanted: Wanted, tmp_path: Path) -> None:
-    answers(program, wanted.under(way), tmp_path)
-
-
-def in_the_way() -> Iterator[Named]:
+@runs_in_both_ways
+def test_a_name_that_is_taken() -> Iterator[Named]:
+    """If a checkpoint can't be created, nothing is touched."""
     for number in 1, 2, 3:
         name, cause = saved_name(number + 1), "cannot create checkpoint"
         yield stopped(number, cause, 5, "a formula is there", others={name: OTHER})
@@ -99,13 +97,9 @@ def in_the_way() -> Iterator[Named]:
                   left={**own, saved_name(3): None}))
 
 
-@each_of(in_the_way())
-def test_a_name_that_is_taken(program: str, way: List[str], wanted: Wanted, tmp_path: Path) -> None:
-    """If a checkpoint can't be created, nothing is touched."""
-    answers(program, wanted.under(way), tmp_path)
-
-
-def order_of_work() -> Iterator[Named]:
+@runs_in_both_ways
+def test_the_order_of_work() -> Iterator[Named]:
+    """The sizes, the streams, the layout, and then the checkpoint: the first fault is reported."""
     texts, said, saved = TWO
     for number in 2, 3:
         end = last(number - 1, said[number - 2], 3)
@@ -139,13 +133,8 @@ def order_of_work() -> Iterator[Named]:
     yield rounds("stream count", 2, [["x"] * 65], err=fault(1, "stream count"))
 
 
-@each_of(order_of_work())
-def test_the_order_of_work(program: str, way: List[str], wanted: Wanted, tmp_path: Path) -> None:
-    """The sizes, the streams, the layout, and then the checkpoint: the first fault is reported."""
-    answers(program, wanted.under(way), tmp_path)
-
-
-def two_ways_to_save() -> Iterator[Named]:
+@runs_in_both_ways
+def test_two_ways_to_save() -> Iterator[Named]:
     given, names, cause = (round_files(ONE.texts), ["formula", stream_name(1)],
                            "--checkpoint and --rounds exclude each other")
     for options in (["--checkpoint", "saved", "--rounds", "d"],
@@ -157,11 +146,6 @@ def two_ways_to_save() -> Iterator[Named]:
         yield f"{options}, and no formula", Wanted(
             [*options, "absent", stream_name(1)], 2, err=fault(1, cause), files=given,
             left={**given, "saved": None, saved_name(2): None})
-
-
-@each_of(two_ways_to_save())
-def test_two_ways_to_save(program: str, way: List[str], wanted: Wanted, tmp_path: Path) -> None:
-    answers(program, wanted.under(way), tmp_path)
 
 
 # Sizes.
@@ -191,18 +175,14 @@ WRONG_SIZES = [
 ]
 
 
-def wrong_sizes() -> Iterator[Named]:
+@runs_in_both_ways
+def test_wrong_sizes() -> Iterator[Named]:
     for text in WRONG_SIZES:
         yield stopped(2, "sizes", 2, f"{text[:70]!r}, {len(text)} characters", "one",
                       others=sized(2, text))
     for text in "", "1 1 1", "0 1 1\n", "1 1 1\n\n":
         yield stopped(3, "sizes", 2, repr(text), "one",
                       others={**sized(2, "1 1 1\n"), **sized(3, text)})
-
-
-@each_of(wrong_sizes())
-def test_wrong_sizes(program: str, way: List[str], wanted: Wanted, tmp_path: Path) -> None:
-    answers(program, wanted.under(way), tmp_path)
 
 
 # Two lines over the four clauses, with three literals in all: they derive the clauses 2 and 2 1.
@@ -212,7 +192,9 @@ NO_LINE = "1 added, 0 deleted, bad line 2 (identity)"
 NO_ROOM = "1 added, 0 deleted, bad line 2 (no room)"
 
 
-def sizes() -> Iterator[Named]:
+@runs_in_both_ways
+def test_sizes() -> Iterator[Named]:
+    """Each limit from both sides; without a file of sizes, the previous round's sizes apply."""
     def second(text: str, said: str, saved: str, options: str = "") -> Named:
         """The two lines in round 2, whose file of sizes has this text; no file if it is ''."""
         return rounds(f"sizes {text!r} {options}", 3, [[""], [LINES]], last(2, [said], 3),
@@ -260,13 +242,9 @@ def sizes() -> Iterator[Named]:
                  {"d/round-2.sizes": "1 1 1\n", "d/round-3.sizes": "1 1 0\n"})
 
 
-@each_of(sizes())
-def test_sizes(program: str, way: List[str], wanted: Wanted, tmp_path: Path) -> None:
-    """Each limit from both sides; without a file of sizes, the previous round's sizes apply."""
-    answers(program, wanted.under(way), tmp_path)
-
-
-def counts() -> Iterator[Named]:
+@runs_in_both_ways
+def test_numbers_of_streams() -> Iterator[Named]:
+    """Without a file of sizes, the number of streams stays the same, too."""
     def derived(count: int, first: int = 5) -> List[str]:
         return [f"{number} 2 0 1 2 0\n" for number in range(first, first + count)]
 
@@ -298,16 +276,12 @@ def counts() -> Iterator[Named]:
                  others=sized(2, "1 1 1\n"))
 
 
-@each_of(counts())
-def test_numbers_of_streams(program: str, way: List[str], wanted: Wanted, tmp_path: Path) -> None:
-    """Without a file of sizes, the number of streams stays the same, too."""
-    answers(program, wanted.under(way), tmp_path)
-
-
 # Saving or the report fails.
 
 
-def full() -> Iterator[Named]:
+@runs_in_both_ways
+def test_full_outputs() -> Iterator[Named]:
+    """No byte of a checkpoint can be written, or the report can't be written."""
     none, unwritten = 'trap "" XFSZ; ulimit -f 0; ', fault(1, "checkpoint not written")
     texts, said, saved = TWO
     yield rounds("a full disk", 9, texts, last(1, said[0], 3), unwritten, [""], do=none)
@@ -337,25 +311,15 @@ def full() -> Iterator[Named]:
                  do="mkdir d/round-2.sizes; ", how="2> /dev/full")
 
 
-@each_of(full())
-def test_full_outputs(program: str, way: List[str], wanted: Wanted, tmp_path: Path) -> None:
-    """No byte of a checkpoint can be written, or the report can't be written."""
-    answers(program, wanted.under(way), tmp_path)
-
-
-def little_memory() -> Iterator[Named]:
+@runs_in_both_ways
+def test_little_memory() -> Iterator[Named]:
+    """In a small address space, with stacks of 8 MB. A row just below the limit takes a
+    gigabyte."""
     do = "ulimit -s 8192 && ulimit -v 1000000 && "
     yield rounds("out of memory in round 1", 6, ONE.texts, "", fault(1, "out of memory"), [""],
                  "--room 268000000", do=do)
     yield rounds("out of memory in round 2", 6, [[""], [LINES]], err=fault(2, "out of memory"),
                  saved=[FOUR, ""], do=do, others=sized(2, "1 1 268435442\n"))
-
-
-@each_of(little_memory())
-def test_little_memory(program: str, way: List[str], wanted: Wanted, tmp_path: Path) -> None:
-    """In a small address space, with stacks of 8 MB. A row just below the limit takes a
-    gigabyte."""
-    answers(program, wanted.under(way), tmp_path)
 
 
 def formulas_in(folder: Path) -> List[Path]:
@@ -375,8 +339,7 @@ def test_a_disk_that_gets_full(program: str, way: List[str], assumed: bool, numb
     """Files are limited to the size of the formula; the checkpoint after this round is larger."""
     texts = ([[""]] * (number - 1)
              + [["".join(f"{identity} 2 0 1 2 0\n" for identity in range(5, 25))], [REFUTING]])
-    for name, text in {**round_files(texts), "cube": "-2 0\n"}.items():
-        written(text, tmp_path, name)
+    write_all({**round_files(texts), "cube": "-2 0\n"}, tmp_path)
     words = [*SMALL_ROW, *way, *["--assume", "cube"] * assumed, *first_words(texts)]
     found = run([program, *words], cwd=tmp_path, preexec_fn=lambda: within(len(FOUR)))
     out = last(number, ["20 added, 0 deleted, ended"], 8 if assumed else 3)
@@ -411,8 +374,7 @@ def test_a_clause_too_many(program: str, way: List[str], number: int, tmp_path: 
     more."""
     clauses = MOST_CLAUSES
     texts = [[""]] * (number - 1) + [[f"{clauses + 1} 1 0 1 0\n"], [BAD]]
-    for name, text in round_files(texts).items():
-        written(text, tmp_path, name)
+    write_all(round_files(texts), tmp_path)
     formula = most_clauses(tmp_path).read_bytes()
     found = run([program, *way, "--lines", "10", "--room", "10", *first_words(texts)],
                 cwd=tmp_path)

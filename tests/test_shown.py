@@ -16,7 +16,7 @@ from typing import Iterator, List, Mapping, NamedTuple, Sequence, Tuple
 import pytest
 
 from harness import (EXAMPLES, EXPLAIN, FILTER, LRUP_RECHECK, ROOT, TRIM, Ran, generated, lacking,
-                     needs, run, written)
+                     needs, output_of, run, write_all, written)
 from solving import SOLVE
 
 LIMIT = 120  # seconds for a page
@@ -161,8 +161,7 @@ def test_usage(script: str, usage: str, words: Sequence[str], tmp_path: Path) ->
 def want_refused(script: str, words: Sequence[object], said: str, folder: Path,
                  given: bytes = b"", files: Mapping[str, str] = {}) -> None:
     """In a folder with these files, the script says this."""
-    for name, text in files.items():
-        written(text, folder, name)
+    write_all(files, folder)
     done = run([EXAMPLES / script, *words], given, cwd=folder)
     assert done == Ran("", f"{Path(script).name}: {said}\n", 1)
 
@@ -238,9 +237,8 @@ def test_smt2cnf_without_a_file(tmp_path: Path) -> None:
     (f"{TRUTH}(assert false)", ["p cnf 1 2", "1 0", "-1 0"]),
     (f"{TRUTH}(assert (not p))", ["p cnf 1 1", "c p 1", "-1 0"])])
 def test_smt2cnf_writes_a_formula(text: str, lines: Sequence[str], tmp_path: Path) -> None:
-    done = run([EXAMPLES / "smt" / "smt2cnf.py", written(text, tmp_path)])
-    assert (done.err, done.status) == ("", 0)
-    assert done.out.splitlines() == lines
+    made = run([EXAMPLES / "smt" / "smt2cnf.py", written(text, tmp_path)])
+    assert output_of(made).splitlines() == lines
 
 
 # Lemmas that lemma.py refuses, for eight bits. The first ones would do something else as Python.

@@ -24,9 +24,9 @@ from typing import Callable, Dict, List, NamedTuple, Optional, Sequence, Tuple
 
 import pytest
 
-from harness import (COMPRESSED, EXAMPLES, FILTER, FOUR, GENERATOR, ROOT, SANITIZE, SANITIZING,
-                     TRIM, VERDICTS, Ran, dimacs, example, generated, lacking, named, piped,
-                     random_clauses, run, sanitized_trim, sanitizer, within, written)
+from harness import (COMPRESSED, EXAMPLES, FILTER, FOUR, GENERATOR, SANITIZE, SANITIZING, TRIM,
+                     VERDICTS, VERSION, Ran, dimacs, example, generated, lacking, named, output_of,
+                     piped, random_clauses, run, sanitized, sanitizer, within, write_all, written)
 from faulty import garbled_text, refuted, solved
 from lrat import lrat_fault
 from proof_forms import Clause, Step, read_formula, read_steps
@@ -44,7 +44,7 @@ Trimmed = Callable[..., str]    # the fixture `trimmed`
 
 def trim(words: Sequence[object], folder: Path, before: Optional[Callable[[], None]] = None) -> Ran:
     """Runs the build for tests in this folder."""
-    return run([sanitized_trim(), *words], cwd=folder, env={**os.environ, **SANITIZING},
+    return run([sanitized(TRIM), *words], cwd=folder, env={**os.environ, **SANITIZING},
                preexec_fn=before)
 
 
@@ -133,11 +133,10 @@ def trimmed(program: str, tmp_path: Path) -> Trimmed:
     def trimmed(formula: Path, proof: Sequence[Path], assumptions: Optional[Path] = None,
                 rehints: bool = False) -> str:
         words = [*(["--assume", assumptions] if assumptions else []), *["--re-hint"] * rehints]
-        done = trim([*outputs_of(tmp_path), *words, formula, *proof], tmp_path)
-        assert (done.err, done.status) == ("", 0)
+        out = output_of(trim([*outputs_of(tmp_path), *words, formula, *proof], tmp_path))
         assert not (tmp_path / "lrat.re-hint").exists()
-        want_right(program, formula, done.out, tmp_path, 8 if assumptions else 0)
-        return done.out
+        want_right(program, formula, out, tmp_path, 8 if assumptions else 0)
+        return out
     return trimmed
 
 
@@ -200,10 +199,9 @@ def test_a_large_output_is_checked_in_rounds(program: str, trimmed: Trimmed, out
     os.symlink(example("bmc.cnf"), tmp_path / "bmc.cnf")
     command = (f'"$1" --rounds live --memory 48K {formula} {output} | {{ read ready && '
                f'"$2" --rounds live {formula} live/round-1.stream-1; }}')
-    done = run(["sh", "-c", command, "sh", FILTER, program], cwd=tmp_path)
-    assert (done.err, done.status) == ("", 0)
-    rounds = re.fullmatch(r"c round (\d+)\n.*\ns UNSATISFIABLE\n", done.out)
-    assert rounds, done.out
+    out = output_of(run(["sh", "-c", command, "sh", FILTER, program], cwd=tmp_path))
+    rounds = re.fullmatch(r"c round (\d+)\n.*\ns UNSATISFIABLE\n", out)
+    assert rounds, out
     assert int(rounds[1]) > 5
 
 
@@ -295,8 +293,7 @@ def test_few_lines(trimmed: Trimmed, streams: Sequence[str], core: str, stream: 
 @pytest.mark.parametrize("proof, stream", [
     pytest.param(ONE, OF_ONE, id="one stream"), pytest.param(TWO, OF_TWO, id="two streams")])
 def test_few_lines_in_rounds(trimmed: Trimmed, proof: Proof, stream: str, tmp_path: Path) -> None:
-    for name, text in round_files(proof.texts).items():
-        written(text, tmp_path, name)
+    write_all(round_files(proof.texts), tmp_path)
     trimmed(tmp_path / "formula", [tmp_path / "d"])
     assert texts_of_outputs(tmp_path) == [CORE, stream, stream]
 
@@ -304,15 +301,12 @@ def test_few_lines_in_rounds(trimmed: Trimmed, proof: Proof, stream: str, tmp_pa
 def test_fewer_streams(program: str, trimmed: Trimmed, tmp_path: Path) -> None:
     """According to its sizes, round 2 has fewer streams; the file of another stream is ignored, and
     so is a file after the round with the empty clause."""
-    files = {"round-1.stream-1": "5 2 0 1 2 0\n5 d 1 0\n", "round-1.stream-2": "6 d 4 1 0\n",
-             "round-2.sizes": "1 9 9\n", "round-2.stream-1": "5 1 0 4 2 0\n6 0 5 4 3 0\n",
-             "round-2.stream-2": "x", "round-3.stream-1": "x"}
-    for name, text in files.items():
-        written(text, tmp_path, f"d/{name}")
+    write_all({"round-1.stream-1": "5 2 0 1 2 0\n5 d 1 0\n", "round-1.stream-2": "6 d 4 1 0\n",
+               "round-2.sizes": "1 9 9\n", "round-2.stream-1": "5 1 0 4 2 0\n6 0 5 4 3 0\n",
+               "round-2.stream-2": "x", "round-3.stream-1": "x"}, tmp_path / "d")
     formula = written(FOUR, tmp_path)
-    done = run([program, "--rounds", "d", formula, "d/round-1.stream-1", "d/round-1.stream-2"],
-               cwd=tmp_path)
-    assert (done.err, done.status) == ("", 0)
+    output_of(run([program, "--rounds", "d", formula, "d/round-1.stream-1", "d/round-1.stream-2"],
+                  cwd=tmp_path))
     trimmed(formula, [tmp_path / "d"])
     assert (tmp_path / "stream").read_text() == OF_FEWER
 
@@ -409,8 +403,7 @@ def test_garbled(program: str, seed: int, tmp_path: Path) -> None:
 def test_no_hints(program: str, tmp_path: Path) -> None:
     """A line that cites nothing is copied, but lrupd refuses it."""
     formula, stream = written(FOUR, tmp_path), written("5 0 0\n", tmp_path, "stream")
-    done = trim(["--lrat", "lrat", formula, stream], tmp_path)
-    assert (done.err, done.status) == ("", 0)
+    output_of(trim(["--lrat", "lrat", formula, stream], tmp_path))
     assert (tmp_path / "lrat").read_text() == "4 d 1 2 3 4 0\n5 0 0\n"
     assert run([program, formula, tmp_path / "lrat"]).status == 3
 
@@ -502,8 +495,7 @@ WRONG_SIZES = ["", "1 2", "1 2\n", "1 2 3 4\n", "0 2 3\n", "65 2 3\n", "x 2 3\n"
     *(pytest.param({**ROUND, "round-2.sizes": text}, "d/round-2.sizes: not STREAMS LINES ROOM",
                    id=f"sizes {text!r}") for text in WRONG_SIZES)])
 def test_bad_rounds(files: Dict[str, str], said: str, tmp_path: Path) -> None:
-    for name, text in files.items():
-        written(text, tmp_path, f"d/{name}")
+    write_all(files, tmp_path / "d")
     done = trim([written(FOUR, tmp_path), "d"], tmp_path)
     assert (done.out, done.status) == ("", 1)
     assert done.err.splitlines()[-1] == f"lrup-trim: {said}"
@@ -517,8 +509,7 @@ def test_bad_rounds(files: Dict[str, str], said: str, tmp_path: Path) -> None:
     pytest.param(lambda digest: "", False, id="none")])
 def test_digests(change: Callable[[str], str], is_right: bool, length: int, tmp_path: Path) -> None:
     """The formula is compared with the record's SHA-256; another formula is refused."""
-    for name, text in ROUND.items():
-        written(text, tmp_path, f"d/{name}")
+    write_all(ROUND, tmp_path / "d")
     formula = written("c" + "x" * (length - 2) + "\n" + FOUR, tmp_path)
     digest = hashlib.sha256(formula.read_bytes()).hexdigest()
     written(f"{change(digest)}  {formula}\n", tmp_path, "d/formula.sha256")
@@ -564,8 +555,7 @@ def test_refused(words: str, status: int, said: str, tmp_path: Path) -> None:
     there and r.re-hint, and a compressed file z."""
     files = {"f": FOUR.encode(), "s": FIRST.encode(), "there": b"mine", "r.re-hint": b"",
              "z": COMPRESSED["zcat"]}
-    for name, text in files.items():
-        written(text, tmp_path, name)
+    write_all(files, tmp_path)
     piped(tmp_path / "p")
     (tmp_path / "d").mkdir()
     done = trim(words.split(), tmp_path)
@@ -584,7 +574,7 @@ def test_files_that_are_rewritten(seed: int, tmp_path: Path) -> None:
     """Meanwhile lrup-trim writes all outputs or none."""
     if not sanitizer():
         lacking(f"the C compiler doesn't build with {SANITIZE[3]}")
-    command = lambda number, folder: [sanitized_trim(), *outputs_of(folder),
+    command = lambda number, folder: [sanitized(TRIM), *outputs_of(folder),
                                       *["--re-hint"] * (number % 4 == 3)]
     for status, folder in withstands(command, (0, 1), 15, seed, tmp_path):
         assert sorted(os.listdir(folder)) == (sorted(OUTPUTS) if status == 0 else [])
@@ -626,14 +616,11 @@ def test_a_limit_on_the_size_of_files(limit: int, options: Sequence[object],
 
 @pytest.mark.parametrize("word", ["--help", "-h"])
 def test_help(word: str, tmp_path: Path) -> None:
-    done = trim([word], tmp_path)
-    assert done.out.startswith("usage: lrup-trim ")
-    assert (done.err, done.status) == ("", 0)
+    assert output_of(trim([word], tmp_path)).startswith("usage: lrup-trim ")
 
 
 def test_version() -> None:
-    version = (ROOT / "VERSION").read_text().strip()
-    assert run([TRIM, "--version"]) == Ran(f"lrup-trim {version}\n", "", 0)
+    assert run([TRIM, "--version"]) == Ran(f"lrup-trim {VERSION}\n", "", 0)
 
 
 # Records of lrup-solve.

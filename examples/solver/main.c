@@ -19,11 +19,6 @@
 #include "errors.h"
 #include "solver.h"
 
-static void end(const char *cause) {
-    fprintf(stderr, "solver: %s\n", cause);
-    exit(1);
-}
-
 static double seconds(void) {
     struct timespec now;
     timespec_get(&now, TIME_UTC);
@@ -134,7 +129,7 @@ static void tell(const Portfolio *portfolio, double time) {
 int main(int count, char **words) {
     static Portfolio portfolio = { .share = 4, .first = 1 };
     bool progress = false;
-    errors_handle(end);
+    errors_name("solver", NULL);
     char **paths = read_options(&portfolio, words + 1, &progress);
     portfolio.solvers = count - (int)(paths - words) - 1;
     if (portfolio.streams == 0) portfolio.streams = portfolio.solvers;

@@ -19,7 +19,7 @@ from typing import List, NamedTuple
 
 import pytest
 
-from harness import (FOUR, PROGRAM, ROOT, VERDICTS, Ran, example, feed, generated, named, needs,
+from harness import (FOUR, PROGRAM, VERDICTS, VERSION, Ran, example, feed, generated, named, needs,
                      piped, run, started, until, written)
 from lrat import lrat_fault
 from proof_forms import read_formula
@@ -350,7 +350,7 @@ def test_help() -> None:
 
 def test_version() -> None:
     answer = check(["--version"])
-    assert answer.out == f"lrup-check {(ROOT / 'VERSION').read_text()}"
+    assert answer.out == f"lrup-check {VERSION}\n"
     assert (answer.said, answer.status) == ("", 2)
 
 
@@ -414,8 +414,8 @@ def test_a_proof_at_a_terminal(name: str, shown: str, tmp_path: Path) -> None:
     finally:
         os.close(leader)
         os.close(terminal)
-    assert (answer.out, answer.status) == ("", 1)
-    assert answer.said == f"lrup-check: {shown} is a terminal: name a file, or use a pipe\n"
+    said = f"lrup-check: {shown} is a terminal: name a file, or use a pipe\n"
+    assert answer.ran == Ran("", said, 1)
 
 
 @pytest.mark.parametrize("number", [signal.SIGTERM, signal.SIGINT, signal.SIGHUP, signal.SIGKILL],

@@ -17,13 +17,13 @@ from typing import Any, Dict, Iterator, List, Mapping, Tuple, Union
 import pytest
 
 import harness
-from harness import (FILTER, LIMIT, Ran, dimacs, feed, generated, held, needs, piped,
-                     random_clauses, run, started, until, written)
+from harness import (FILTER, dimacs, feed, generated, held, needs, piped, random_clauses, run,
+                     started, until, written)
 from lrat import lrat_fault
 from mutations import mutated_bytes, mutated_steps
 from proof_forms import FORMS, Clause, Step, read_formula, read_steps
-from solving import (TESTED, Answer, check, check_again, children_of, in_environment, is_alive,
-                     marked, none_left, sleep)
+from solving import (TESTED, Answer, check, check_again, children_of, end_of, in_environment,
+                     is_alive, marked, none_left, sleep)
 
 Hooks = Mapping[str, object]
 WINDOWS = (1, 2, 7)
@@ -319,15 +319,14 @@ def test_killed(name: str, tmp_path: Path) -> None:
         time.sleep(0.2)
         pipe.write(data[half:])
         pipe.close()
-        out, err = running.communicate(timeout=LIMIT)
+        answer = end_of(running)
     none_left(mark)
-    answer = Answer(Ran(out, err, running.returncode))
     if name == "engine 1":
-        assert (answer.answers, answer.status) == (["s UNKNOWN"], 3), out
+        assert (answer.answers, answer.status) == (["s UNKNOWN"], 3), answer.out
     else:
         cause = f"{tmp_path}/pipe: a filter ended by a signal: Killed, so {ONE_CHECKS}"
-        assert cause in answer.comments, out
-        assert (answer.answers, answer.status) == (["s UNSATISFIABLE"], 0), out
+        assert cause in answer.comments, answer.out
+        assert (answer.answers, answer.status) == (["s UNSATISFIABLE"], 0), answer.out
 
 
 @pytest.mark.parametrize("seed", range(16))
@@ -347,13 +346,12 @@ def test_filters_killed_at_random(seed: int, tmp_path: Path) -> None:
         if is_alive(pid):
             with contextlib.suppress(ProcessLookupError):
                 os.kill(pid, signal.SIGKILL)
-        out, err = running.communicate(timeout=LIMIT)
+        answer = end_of(running)
     none_left(mark)
-    answer = Answer(Ran(out, err, running.returncode))
     if (answer.answers, answer.status) != (["s UNSATISFIABLE"], 0):
-        assert (answer.answers, answer.status) == (["s UNKNOWN"], 3), out
+        assert (answer.answers, answer.status) == (["s UNKNOWN"], 3), answer.out
         assert any(line.endswith(ONE_CHECKS) and "Killed" not in line
-                   for line in answer.comments), out
+                   for line in answer.comments), answer.out
 
 
 @pytest.mark.parametrize("moment", ("ENDING", "SAVING"))
@@ -378,12 +376,12 @@ def test_killed_between_rounds(name: str, moment: str, tmp_path: Path) -> None:
         time.sleep(0.3)
         if stopped == "lrupd":
             os.kill(children[stopped], signal.SIGCONT)
-        out, err = running.communicate(timeout=LIMIT)
+        answer = end_of(running)
         writer.join()
     none_left(mark)
-    answer = Answer(Ran(out, err, running.returncode))
-    assert (answer.answers, answer.status) == (["s UNSATISFIABLE"], 0), out
-    assert any("Killed" in line and line.endswith(ONE_CHECKS) for line in answer.comments), out
+    assert (answer.answers, answer.status) == (["s UNSATISFIABLE"], 0), answer.out
+    assert any("Killed" in line and line.endswith(ONE_CHECKS)
+               for line in answer.comments), answer.out
 
 
 def test_a_stop_while_a_filter_waits(tmp_path: Path) -> None:
@@ -409,5 +407,5 @@ def test_a_stop_while_a_filter_waits(tmp_path: Path) -> None:
         for name in ("filter 3", "filter 1"):
             os.kill(children[name], signal.SIGCONT)
             time.sleep(1)
-        out, err = running.communicate(timeout=LIMIT)
-    assert (running.returncode, err) == (0, ""), out
+        answer = end_of(running)
+    assert (answer.status, answer.said) == (0, ""), answer.out

@@ -13,23 +13,21 @@ import re
 import resource
 import signal
 import struct
-import subprocess
 import tempfile
 import termios
 import time
 from pathlib import Path
-from typing import Any, Dict, Iterator, List, Optional, Sequence, Set, Tuple
+from typing import Any, Iterator, List, Optional, Sequence, Set, Tuple
 
 import pytest
 
-from harness import (EXAMPLES, FOUR, LIMIT, PROGRAM, ROOT, VERDICTS, Ran, dimacs, example,
-                     generated, in_shell, named, needs, random_clauses, run, started, until,
-                     written)
+from harness import (EXAMPLES, FOUR, LIMIT, PROGRAM, ROOT, VERDICTS, dimacs, example, generated,
+                     in_shell, named, needs, random_clauses, run, until, written)
 from proof_forms import read_formula
-from solving import (EARLY, ELIMINATING, SOLVE, Answer, check_again, children_of, command,
-                     end_group, goes_on, in_environment, in_place_of_lrupd, is_alive,
-                     kill_children, of_process, random_formula, rests_on, says, solve, want_answer,
-                     want_cause)
+from solving import (EARLY, ELIMINATING, SOLVE, Answer, Run, check_again, children_of, command,
+                     end_group, end_of, goes_on, in_environment, in_place_of_lrupd, kill_children,
+                     of_process, random_formula, rests_on, says, solve, started_run, until_there,
+                     want_answer, want_cause)
 
 pytestmark = pytest.mark.usefixtures("solve_for_tests")
 MITERS = EXAMPLES / "miter"
@@ -191,45 +189,25 @@ def test_another_lrupd(body: str, cause: str, tmp_path: Path) -> None:
 # Processes that are killed, and signals.
 
 
-class Running:
-    """A run whose engines, filters and lrupd have all been started. Processes that haven't ended
-    are killed when the block is left. A build for tests starts lrupd as soon as a stream has a
-    line, before a fast machine can finish."""
-    HOOKS = {"FIRST_WORDS": 1 << 22}
+class Running(Run):
+    """A run whose engines, filters and lrupd have all been started. A build for tests starts lrupd
+    as soon as a stream has a line, before a fast machine can finish."""
 
     def __init__(self, formula: Path, work: Path, ignored: Sequence[int] = ()) -> None:
         def ignore() -> None:
             for number in ignored:
                 signal.signal(number, signal.SIG_IGN)
-        self.folder = Path(tempfile.mkdtemp(dir=work))
-        self.process = subprocess.Popen(
-            command(["-v", "-j", "2", formula], self.HOOKS), cwd=self.folder, text=True,
-            stdout=subprocess.PIPE, stderr=subprocess.PIPE, preexec_fn=ignore,
-            start_new_session=True, env=in_environment(self.HOOKS, {"TMPDIR": str(self.folder)}))
-        self.children: Dict[str, int] = {}
+        folder = Path(tempfile.mkdtemp(dir=work))
+        super().__init__(["-j", "2", formula], {"FIRST_WORDS": 1 << 22}, folder, cwd=folder,
+                         preexec_fn=ignore)
 
-    def __enter__(self) -> "Running":
-        try:
-            until("five children, or the end",
-                  lambda: self.process.poll() is not None or self.has_all())
-        except AssertionError:
-            self.__exit__()
-            raise
-        return self
-
-    def __exit__(self, *_: object) -> None:
-        end_group(self.process)
+    def get_ready(self) -> None:
+        until("five children, or the end",
+              lambda: self.process.poll() is not None or self.has_all())
 
     def has_all(self) -> bool:
         self.children = children_of(self.process.pid)
         return {"engine 1", "engine 2", "filter 1", "filter 2", "lrupd"} <= set(self.children)
-
-    def end(self) -> Answer:
-        """The run's output; none of its children is left, and no file."""
-        out, said = self.process.communicate(timeout=LIMIT)
-        until("its children end", lambda: not any(map(is_alive, self.children.values())))
-        until("its files are removed", lambda: not os.listdir(self.folder))
-        return Answer(Ran(out, said, self.process.returncode))
 
 
 @pytest.fixture
@@ -408,21 +386,19 @@ def test_random_with_cubes(seed: int, tmp_path: Path) -> None:
 def test_another_engine_gets_the_cube_of_a_lost_one(name: str, tmp_path: Path) -> None:
     """Slices are long, so the engine is killed before it has refuted its cube."""
     formula = generated("pigeons 8", tmp_path)
-    with subprocess.Popen(command(["-v", "-j", "4", formula]), text=True, start_new_session=True,
-                          stdout=subprocess.PIPE, stderr=subprocess.PIPE) as process:
+    with started_run(["-v", "-j", "4", formula], start_new_session=True) as process:
         try:
             assert process.stdout
             before = ""
             while "engines take cubes" not in before:
                 before = process.stdout.readline() or "engines take cubes: never"
             kill_children(children_of(process.pid), [name])
-            out, said = process.communicate(timeout=LIMIT)
+            answer = end_of(process)
         finally:
             end_group(process)
-    answer = Answer(Ran(out, said, process.returncode))
     want_answer(answer, 20, formula)
-    assert len(answer.lost()) == 1, out
-    assert cubes_of(answer)[2] >= 1, out
+    assert len(answer.lost()) == 1, answer.out
+    assert cubes_of(answer)[2] >= 1, answer.out
 
 
 # Outputs that can't be written.
@@ -503,10 +479,9 @@ def terminal() -> Iterator[Terminal]:
 def run_on(terminal: Terminal, options: List[str], count: int, work: Path) -> List[str]:
     """Ends a run once its loop has taken some turns and it has shown `count` lines of progress;
     returns the lines of its standard output."""
-    with started(command(["-j", "2", *options, generated("pigeons 11", work)]),
-                 stdout=subprocess.PIPE, stderr=terminal.end, text=True) as running:
-        until("an engine is there",
-              lambda: "engine 1" in children_of(running.pid) or running.poll() is not None)
+    with started_run(["-j", "2", *options, generated("pigeons 11", work)],
+                     stderr=terminal.end) as running:
+        until_there("engine 1", running)
         goes_on(running)
         until(f"{count} lines of progress",
               lambda: len(PROGRESS.findall(terminal.shown())) >= count
@@ -573,8 +548,7 @@ def test_ended_while_a_large_formula_is_read(options: List[str], number: int, wh
     """A terminal shows that the formula is read; a signal ends the run at once, and so does
     --time."""
     reading = f"reading {large_formula} ..".encode()
-    with started(command([*options, large_formula]), stdout=subprocess.PIPE, stderr=terminal.end,
-                 text=True) as running:
+    with started_run([*options, large_formula], stderr=terminal.end) as running:
         until("that it is read",
               lambda: reading in terminal.shown() or running.poll() is not None)
         began = time.monotonic()

@@ -24,9 +24,9 @@ from typing import Dict, Iterator, List, NamedTuple, Set, Tuple
 
 import pytest
 
-from attacks import EXPECTED, OPTIONS, SIGNALS, Attack, Records
+from attacks import EXPECTED, OPTIONS, Attack, Records
 from harness import COUNT, MINUTES, SEED, dimacs, feed, generated, until
-from hostile import FOUND, PROVED, STATUSES, UNDER, UNKNOWN
+from hostile import ANY_SIGNAL, FOUND, PROVED, STATUSES, UNDER, UNKNOWN
 from limits import Limited, limited
 from proof_forms import read_formula
 from records import recorded
@@ -110,7 +110,7 @@ def send(attack: Attack, group: Limited) -> List[Tuple[str, str]]:
     if not found:
         return []
     name, pid = attack.numbers.choice(found)
-    number = attack.numbers.choice(SIGNALS)
+    number = attack.numbers.choice(ANY_SIGNAL)
     with contextlib.suppress(ProcessLookupError):
         os.kill(pid, number)
     return [(number.name, name)]

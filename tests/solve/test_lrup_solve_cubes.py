@@ -6,18 +6,16 @@ cubes; and the example. Cubes aren't trusted: each answer has to be right for th
 import itertools
 import random
 import re
-import subprocess
 from pathlib import Path
 from typing import Callable, Iterable, List, Mapping, Optional, Sequence
 
 import pytest
 
-from harness import (LIMIT, ROOT, Ran, dimacs, example, generated, named, random_clauses, run,
-                     until, written)
+from harness import ROOT, dimacs, example, generated, named, random_clauses, run, until, written
 from lrat import lrat_fault
 from proof_forms import read_formula
-from solving import (EARLY, Answer, check_again, children_of, command, end_group, kill_children,
-                     solve, want_answer)
+from solving import (EARLY, Answer, check_again, children_of, end_group, end_of, kill_children,
+                     solve, started_run, want_answer)
 
 pytestmark = pytest.mark.usefixtures("solve_for_tests")
 EXAMPLES = ROOT / "examples" / "cubes"
@@ -145,19 +143,17 @@ def test_another_engine_gets_the_cube_of_a_lost_one(name: str, engines: int,
     """The lost engine has had its first cube since before it was started."""
     formula = generated("pigeons 8", tmp_path)
     file = cubes_file(covering(1, 9, 17), tmp_path)
-    words = command(["-v", "-j", engines, "--cubes", file, formula])
-    with subprocess.Popen(words, text=True, start_new_session=True, stdout=subprocess.PIPE,
-                          stderr=subprocess.PIPE) as process:
+    words = ["-v", "-j", engines, "--cubes", file, formula]
+    with started_run(words, start_new_session=True) as process:
         try:
             until(f"{name} is there", lambda: name in children_of(process.pid))
             kill_children(children_of(process.pid), [name])
-            out, said = process.communicate(timeout=LIMIT)
+            answer = end_of(process)
         finally:
             end_group(process)
-    answer = Answer(Ran(out, said, process.returncode))
     want_answer(answer, 20, formula)
-    assert len(answer.lost()) == 1, out
-    assert handed_on(answer) == [1], out
+    assert len(answer.lost()) == 1, answer.out
+    assert handed_on(answer) == [1], answer.out
 
 
 def test_what_a_lost_engine_has_refuted_stays_refuted(tmp_path: Path) -> None:
@@ -185,8 +181,7 @@ def test_other_lines_are_skipped(text: str, count: int, tmp_path: Path) -> None:
 def refusal(cubes: Path, options: Sequence[str] = ()) -> str:
     """The message of a run that these cubes, or these options, end."""
     answer = solve(["--cubes", cubes, *options, example("bmc.cnf")])
-    assert answer.out == ""
-    assert answer.status == 1
+    assert (answer.out, answer.status) == ("", 1)
     return answer.said
 
 

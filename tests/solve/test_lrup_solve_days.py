@@ -24,11 +24,11 @@ from typing import Callable, Dict, Iterator, List, Optional, Tuple
 import pytest
 
 from hard_formulas import miter, parity
-from harness import (LIMIT, MINUTES, SEED, Ran, dimacs, generated, random_clauses, run, started,
-                     until, within, written)
+from harness import (LIMIT, MINUTES, SEED, Ran, dimacs, generated, random_clauses, run, until,
+                     within, written)
 from records import CHANGES, UNKNOWN, saved_rounds, want_no_other, whole
-from solving import (ANSWERS, EARLY, Answer, command, in_environment, is_alive, marked,
-                     none_left, of_process, processes_of_run, solve, want_answer)
+from solving import (ANSWERS, EARLY, Answer, is_alive, marked, none_left, of_process,
+                     processes_of_run, solve, started_run, want_answer)
 
 pytestmark = pytest.mark.usefixtures("solve_for_tests", "in_time")
 SIZE = 1 if MINUTES else 0
@@ -99,21 +99,12 @@ class Chain:
         return ["-j", numbers.randint(1, 3), *alone, "--seed", numbers.randrange(5), *clock,
                 *how, self.formula]
 
-    def environment(self) -> "dict[str, str]":
-        return in_environment(self.tested, {"TMPDIR": str(self.temporary)})
-
-    @contextlib.contextmanager
-    def begun(self, before: Callable[[], None]) -> Iterator["subprocess.Popen[str]"]:
-        with started(command(self.words(), self.tested), env=self.environment(), cwd=self.here,
-                     text=True, stdout=subprocess.PIPE, stderr=subprocess.PIPE,
-                     preexec_fn=before) as running:
-            yield running
-
     def killed(self, pause: Optional[float], before: Callable[[], None] = lambda: None) -> Answer:
         """A run in which a process is killed after each pause; without `pause`, no process is. No
         saved round may be lost."""
         saved, names = saved_rounds(self.kept), []
-        with self.begun(before) as running:
+        with started_run(self.words(), self.tested, {"TMPDIR": str(self.temporary)}, cwd=self.here,
+                         preexec_fn=before) as running:
             while running.poll() is None:
                 try:
                     out, said = running.communicate(

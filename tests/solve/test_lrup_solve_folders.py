@@ -10,9 +10,9 @@ from typing import List
 
 import pytest
 
-from harness import FOUR, PROGRAM, by_another, example, generated, run, started, until, written
-from solving import (MODELS, SOLVE, Answer, before_lrupd, children_of, command, solve,
-                     want_answer)
+from harness import FOUR, PROGRAM, by_another, example, executable, generated, run, written
+from solving import (MODELS, SOLVE, Answer, before_lrupd, children_of, solve, started_run,
+                     until_there, want_answer)
 
 pytestmark = pytest.mark.usefixtures("solve_for_tests")
 
@@ -42,10 +42,9 @@ def test_another_folder_in_place(ends: signal.Signals, tmp_path: Path) -> None:
     the target of a link in the temporary folder. The run's own files are removed."""
     files, mine = tmp_path / "files", written("mine", tmp_path / "mine", "mine")
     files.mkdir()
-    with started(command(["-j", "1", generated("pigeons 11", tmp_path)]),
-                 env={**os.environ, "TMPDIR": str(files)}, stdout=subprocess.DEVNULL) as running:
-        until("lrupd is there",
-              lambda: "lrupd" in children_of(running.pid) or running.poll() is not None)
+    with started_run(["-j", "1", generated("pigeons 11", tmp_path)],
+                     env_more={"TMPDIR": str(files)}, stdout=subprocess.DEVNULL) as running:
+        until_there("lrupd", running)
         engines, (folder,) = children_of(running.pid)["lrup-engines"], files.iterdir()
         moved = folder.rename(tmp_path / "moved")
         (moved / "a link").symlink_to(mine.parent)
@@ -84,11 +83,9 @@ def test_a_stopped_cleaner(tmp_path: Path) -> None:
     files, go = tmp_path / "files", tmp_path / "go"
     files.mkdir()
     lrupd = before_lrupd(f"while [ ! -e {go} ]; do sleep 0.1; done", tmp_path)
-    with started([SOLVE, "--lrupd", lrupd, "-j", "1", written(FOUR, tmp_path)],
-                 env={**os.environ, "TMPDIR": str(files)}, stdout=subprocess.PIPE,
-                 text=True) as running:
-        until("the cleaner is there",
-              lambda: "cleaner" in children_of(running.pid) or running.poll() is not None)
+    with started_run(["--lrupd", lrupd, "-j", "1", written(FOUR, tmp_path)],
+                     env_more={"TMPDIR": str(files)}) as running:
+        until_there("cleaner", running)
         os.kill(children_of(running.pid)["cleaner"], signal.SIGSTOP)
         go.touch()
         out = running.communicate(timeout=60)[0]
@@ -102,8 +99,7 @@ def test_tools_in_the_current_folder(how: str, tmp_path: Path) -> None:
     """A tool in the current folder isn't run, even if the PATH has that folder, or if the program's
     own path is too long and therefore unknown."""
     for name in ("lrup-trim", "lrup-explain", "lrup-model", "lrupd", "-mpi"):
-        written(f"#!/bin/sh\n{f': > {tmp_path}/ran' * (name != 'lrupd')}\nexit 3\n", tmp_path,
-                name).chmod(0o755)
+        executable(f"{f': > {tmp_path}/ran' * (name != 'lrupd')}\nexit 3", tmp_path, name)
     (tmp_path / "bin").mkdir()
     for path in (SOLVE, SOLVE.with_name("lrup-engines"), MODELS / "lrup-model"):
         shutil.copy(path, tmp_path / "bin")

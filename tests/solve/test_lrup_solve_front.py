@@ -15,7 +15,8 @@ from typing import Iterator, List, Sequence
 
 import pytest
 
-from harness import FOUR, LIMIT, PROGRAM, ROOT, Ran, named, run, started, until, written
+from harness import (FOUR, LIMIT, PROGRAM, ROOT, VERSION, Ran, executable, named, output_of, run,
+                     started, until, written)
 from hostile import (AGAIN, FOUND, PROOF, PROVED, SATISFIABLE, UNDER, UNKNOWN, assert_answer,
                      is_model, printed, program, run_with)
 from solving import (SOLVE, Answer, before_lrupd, children_of, in_place_of_lrupd, marked, none_left,
@@ -584,10 +585,8 @@ def expecting(words: Sequence[str], tmp_path: Path) -> Iterator[Ran]:
     """Runs with --expect unsat at each place among these words. lrupd can't run, and engines do
     nothing. It is the last --expect that counts."""
     written(UNDER_LITERAL, tmp_path, "cube")
-    engines = written("#!/bin/sh\nexit 0\n", tmp_path, "engines")
-    engines.chmod(0o755)
-    rest = ["--lrupd", str(in_place_of_lrupd("kill -9 $$", tmp_path)), "--engines", str(engines),
-            str(written(SATISFIABLE, tmp_path))]
+    rest = ["--lrupd", str(in_place_of_lrupd("kill -9 $$", tmp_path)), "--engines",
+            str(executable("exit 0", tmp_path, "engines")), str(written(SATISFIABLE, tmp_path))]
     for given in (["--expect", "unsat"], ["--expect=unsat"]):
         for line in ([*given, *words, *rest], [*words, *given, *rest], [*words, *rest, *given],
                      [*rest, *words, *given], [*rest, *given, *words]):
@@ -666,15 +665,14 @@ write(b"c " + 10000 * b"x")"""
 def test_help_and_version(word: str, tmp_path: Path) -> None:
     """No other program is asked for them, so none can print a verdict."""
     engines = in_place_of_lrupd("echo s UNSATISFIABLE; exit 20", tmp_path)
-    formula, version = written(SATISFIABLE, tmp_path), (ROOT / "VERSION").read_text().strip()
+    formula = written(SATISFIABLE, tmp_path)
     for line in ([word, "--engines", engines, formula], ["--engines", engines, formula, word],
                  ["-q", "--engines", engines, word]):
-        done = run([SOLVE, *line])
-        assert (done.err, done.status) == ("", 0)
+        out = output_of(run([SOLVE, *line]))
         if word == "--version":
-            assert done.out == f"lrup-solve {version}\n"
+            assert out == f"lrup-solve {VERSION}\n"
         else:
-            assert done.out.startswith("usage: lrup-solve ")
+            assert out.startswith("usage: lrup-solve ")
 
 
 def test_help_that_cannot_be_written() -> None:

@@ -19,13 +19,13 @@ from typing import Dict, Iterator, List, NamedTuple, Sequence, Tuple
 
 import pytest
 
-from harness import (BUILDS, COUNT, FOUR, LIMIT, MODEL, ROOT, SUPPORT, Ran, alone, compiled, dimacs,
-                     is_newer, random_clauses, run, started, until, written)
-from hostile import (FOUND, PROOF, PROVED, SATISFIABLE, STATUSES, UNDER, UNKNOWN, is_model, printed,
-                     run_with)
+from harness import (BUILDS, COUNT, FOUR, MODEL, ROOT, SUPPORT, alone, compiled, dimacs, is_newer,
+                     random_clauses, run, until, written)
+from hostile import (ANY_SIGNAL, DEADLY, FOUND, PROOF, PROVED, SATISFIABLE, STATUSES, STOPS, UNDER,
+                     UNKNOWN, is_model, printed, run_with)
 from hostile_programs import COMMON, PROGRAMS, PROVING, SATISFYING, Program, programs
-from solving import (EARLY, FRONT, FRONTS_FLAGS, SOLVE, Answer, command, end_all, in_environment,
-                     marked, of_process, processes_of, processes_of_run, solve, with_model)
+from solving import (EARLY, FRONT, FRONTS_FLAGS, SOLVE, Answer, end_all, end_of, marked, of_process,
+                     processes_of, processes_of_run, solve, started_run, with_model)
 
 pytestmark = pytest.mark.usefixtures("solve_for_tests")
 SIGNALS = COUNT or 60
@@ -181,11 +181,6 @@ def test_each_call_refused(function: str, how: str, name: str, refusing_front: P
 
 # Random signals.
 
-GENTLE = (signal.SIGCHLD, signal.SIGCONT)
-STOPS = (signal.SIGSTOP, signal.SIGTSTP, signal.SIGTTOU)
-DEADLY = (signal.SIGHUP, signal.SIGINT, signal.SIGQUIT, signal.SIGABRT, signal.SIGFPE,
-          signal.SIGUSR1, signal.SIGALRM, signal.SIGTERM, signal.SIGPIPE, signal.SIGSEGV,
-          signal.SIGXCPU, signal.SIGKILL)
 SOON = 20       # seconds within which everything ends once the front is killed
 A_TEST = 6      # signals per test
 
@@ -194,7 +189,7 @@ def sent(numbers: random.Random, pid: int) -> Tuple[str, str]:
     """Sends a random signal to a random process of this front's run, and returns both names. A
     stopped process may be continued soon."""
     name, chosen = numbers.choice(sorted(processes_of_run(pid).items()))
-    number, goes_on = numbers.choice((*DEADLY, *STOPS, *GENTLE)), numbers.random() < 0.5
+    number, goes_on = numbers.choice(ANY_SIGNAL), numbers.random() < 0.5
     with contextlib.suppress(ProcessLookupError):
         os.kill(chosen, number)
         if number in STOPS and goes_on:
@@ -240,9 +235,8 @@ def signalled(numbers: random.Random, most: int, given: Given, work: Path) -> in
     history: List[Tuple[str, str]] = []
     files.mkdir()
     hooks = {"SET": EARLY, "SLICE": 50, "FIRST_WORDS": numbers.choice((1000, 10000))}
-    words = command([*given.words, "--time", limit, given.formula], hooks)
-    with started(words, env={**in_environment(hooks), "TMPDIR": str(files)}, cwd=work, text=True,
-                 stdout=subprocess.PIPE, stderr=subprocess.PIPE) as running:
+    with started_run([*given.words, "--time", limit, given.formula], hooks, {"TMPDIR": str(files)},
+                     cwd=work) as running:
         begun = time.monotonic()
         for moment in sorted(numbers.uniform(0, given.lasts) for _ in range(most)):
             time.sleep(max(0, begun + moment - time.monotonic()))
@@ -253,7 +247,7 @@ def signalled(numbers: random.Random, most: int, given: Given, work: Path) -> in
             until("the run ends", lambda: is_over(running), limit + 40)
             is_killed = running.returncode == -signal.SIGKILL
             until("all processes end", lambda: are_gone(mark, is_killed), SOON)
-            answer = Answer(Ran(*running.communicate(timeout=LIMIT), running.returncode))
+            answer = end_of(running)
             assert_no_other(answer, given.right, given.formula)
             if not may_leave_files(history):
                 until("its files are removed", lambda: not os.listdir(files), SOON)

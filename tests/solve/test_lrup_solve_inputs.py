@@ -14,12 +14,12 @@ from typing import Any, Callable, Dict, Iterator, List, Mapping, NamedTuple, Seq
 import pytest
 
 from harness import (COMPRESSED, FILTER, FOUR, LIMIT, MODEL, PROGRAM, SMALL_ROW, VERDICTS, Ran,
-                     compiled, example, generated, in_shell, named, piped, run, started, until,
-                     written)
+                     compiled, example, generated, in_shell, named, output_of, piped, run, started,
+                     until, written)
 from lrat import lrat_fault
 from proof_forms import read_formula
-from solving import (SOLVE, Answer, before_lrupd, check_again, children_of, command,
-                     in_environment, in_place_of_lrupd, listed, none_left, solve, want_answer)
+from solving import (SOLVE, Answer, before_lrupd, check_again, command, end_of, in_place_of_lrupd,
+                     listed, none_left, solve, started_run, until_there, want_answer)
 
 pytestmark = pytest.mark.usefixtures("solve_for_tests")
 Text = Union[str, bytes]
@@ -399,16 +399,14 @@ def test_a_run_without_an_answer_replaces_a_proof(kept: Path, tmp_path: Path) ->
     """It is ended by a signal, and leaves nothing but what it has saved."""
     write_others(kept)
     want_answer(solve(["-j", 2, "--proofs", kept], given=example("bmc.cnf").read_text()), 20)
-    one_round = {"FIRST_WORDS": 1 << 24}      # no machine fills this row before the run ends
     words = ["-j", 1, "--replace", "--proofs", kept, generated("pigeons 11", tmp_path)]
-    with started(command(words, one_round), env=in_environment(one_round), stdout=subprocess.PIPE,
-                 text=True) as running:
-        until("lrupd is there",
-              lambda: "lrupd" in children_of(running.pid) or running.poll() is not None)
+    one_round = {"FIRST_WORDS": 1 << 24}      # no machine fills this row before the run ends
+    with started_run(words, one_round) as running:
+        until_there("lrupd", running)
         running.terminate()
-        out = running.communicate(timeout=LIMIT)[0]
-    assert out.splitlines()[-1] == "s UNKNOWN"
-    assert running.returncode == -signal.SIGTERM
+        answer = end_of(running)
+    assert answer.out.splitlines()[-1:] == ["s UNKNOWN"]
+    assert answer.status == -signal.SIGTERM
     assert sorted(os.listdir(kept)) == sorted([
         *OTHERS, "checkpoint-2.cnf", "files", "formula.sha256", "round-1.sizes", "round-1.stream-1",
         "rounds.sha256"])
@@ -595,10 +593,9 @@ def test_lrup_solve_accepts(text: Text, status: int, tmp_path: Path) -> None:
 def test_lrup_exact_and_lrupd_accept(text: Text, status: int, tmp_path: Path) -> None:
     """If the formula is unsatisfiable, the filter finds the empty clause by unit propagation."""
     formula, is_refuted = written(text, tmp_path), status == 20
-    exact = run([FILTER, "--format", "drat", formula], "0\n" * is_refuted)
-    assert (exact.err, exact.status) == ("", 0)
-    assert exact.out.count("\n") == is_refuted
-    done = run([PROGRAM, *SMALL_ROW, formula, written(exact.out, tmp_path, "stream")])
+    exact = output_of(run([FILTER, "--format", "drat", formula], "0\n" * is_refuted))
+    assert exact.count("\n") == is_refuted
+    done = run([PROGRAM, *SMALL_ROW, formula, written(exact, tmp_path, "stream")])
     assert (done.err, done.status) == ("", 0 if is_refuted else 3)
     assert done.out.splitlines()[-1] == VERDICTS[done.status]
 
@@ -647,9 +644,8 @@ def test_a_compressed_formula(name: str, tmp_path: Path) -> None:
 
 
 def test_a_folder_in_place_of_the_formula(tmp_path: Path) -> None:
-    answer = solve([tmp_path])
-    assert (answer.out, answer.status) == ("", 1)
-    assert answer.said == f"lrupd: cannot read formula ({tmp_path}: Is a directory)\n"
+    said = f"lrupd: cannot read formula ({tmp_path}: Is a directory)\n"
+    assert solve([tmp_path]).ran == Ran("", said, 1)
 
 
 class Refused(NamedTuple):
@@ -742,16 +738,12 @@ def refusal(refused: Refused, name: str) -> str:
 @each_refused_formula
 def test_lrup_solve_refuses(refused: Refused, tmp_path: Path) -> None:
     formula = written(refused.text, tmp_path, "a formula")
-    answer = solve([formula])
-    assert (answer.out, answer.status) == ("", 1)
-    assert answer.said == refusal(refused, f"'{formula}'")
+    assert solve([formula]).ran == Ran("", refusal(refused, f"'{formula}'"), 1)
 
 
 @each_refused_formula
 def test_lrup_solve_refuses_standard_input(refused: Refused) -> None:
-    answer = solve(["-"], given=refused.text)
-    assert (answer.out, answer.status) == ("", 1)
-    assert answer.said == refusal(refused, "standard input")
+    assert solve(["-"], given=refused.text).ran == Ran("", refusal(refused, "standard input"), 1)
 
 
 SPACED = "more than single spaces between its literals"
@@ -777,16 +769,14 @@ def test_assumptions_that_are_refused(literals: str, fault: str, known: str, for
     written(FOUR, tmp_path)
     written(literals, tmp_path, "cube")
     answer = solve(["--assume", "cube", formula], cwd=tmp_path, given=FOUR)
-    assert (answer.out, answer.status) == ("", 1)
-    assert answer.said == f"lrupd: assumptions refused: {fault} (cube: {known})\n"
+    assert answer.ran == Ran("", f"lrupd: assumptions refused: {fault} (cube: {known})\n", 1)
 
 
 def test_a_folder_in_place_of_assumptions(tmp_path: Path) -> None:
     (tmp_path / "cube").mkdir()
+    said = "lrupd: cannot read assumptions (cube: no line of literals that ends with 0)\n"
     answer = solve(["--assume", "cube", written(FOUR, tmp_path)], cwd=tmp_path)
-    assert (answer.out, answer.status) == ("", 1)
-    assert answer.said == ("lrupd: cannot read assumptions (cube: no line of literals that ends "
-                           "with 0)\n")
+    assert answer.ran == Ran("", said, 1)
 
 
 # lrupd reads the formula in a process of its own, before it is needed.
@@ -840,21 +830,20 @@ each_solved = pytest.mark.parametrize("text", named([("unsatisfiable", FOUR),
 def test_lrupd_refuses_late(text: str, late: Path, tmp_path: Path) -> None:
     formula = written(text, tmp_path)
     answer = solve(["--lrupd", late, "-j", "1", formula], cwd=tmp_path)
-    assert (answer.out, answer.status) == ("", 1)
-    assert answer.said == f"lrupd: formula refused: limit ({formula})\n"
+    assert answer.ran == Ran("", f"lrupd: formula refused: limit ({formula})\n", 1)
 
 
 @each_solved
 def test_a_signal_while_only_lrupd_reads(text: str, late: Path, tmp_path: Path) -> None:
     """It ends the waiting."""
-    words = command(["--lrupd", late, "-j", "1", written(text, tmp_path)])
-    with started(words, cwd=tmp_path, stdout=subprocess.PIPE, text=True) as running:
+    words = ["--lrupd", late, "-j", "1", written(text, tmp_path)]
+    with started_run(words, cwd=tmp_path) as running:
         until("the formula is read", lambda: (tmp_path / "read").exists())
         time.sleep(0.5)
         running.terminate()
-        out = running.communicate(timeout=LIMIT)[0]
-    assert out.splitlines()[-1:] == ["s UNKNOWN"]
-    assert running.returncode == -signal.SIGTERM
+        answer = end_of(running)
+    assert answer.out.splitlines()[-1:] == ["s UNKNOWN"]
+    assert answer.status == -signal.SIGTERM
 
 
 LATE_THREAD = """#define _GNU_SOURCE
@@ -881,6 +870,6 @@ def test_only_one_thread_waits_for_lrupds_refusal(tmp_path: Path) -> None:
     formula = written("p cnf 2 1\n1000000000000000000 2 0\n", tmp_path)
     lrupd = in_place_of_lrupd(f"sleep 1\nexec {shlex.quote(PROGRAM)} \"$@\"", tmp_path)
     answer = solve(["-q", "--lrupd", lrupd, formula], env_more={"LD_PRELOAD": str(late)})
-    assert (answer.out, answer.status) == ("", 1)
-    assert answer.said == (f"lrupd: formula refused: variable out of range in line 2 ({formula}, "
-                           "line 2: variable 1000000000000000000, above the header's 2)\n")
+    assert answer.ran == Ran(
+        "", f"lrupd: formula refused: variable out of range in line 2 ({formula}, line 2: variable "
+        "1000000000000000000, above the header's 2)\n", 1)

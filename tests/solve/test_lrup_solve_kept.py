@@ -18,8 +18,8 @@ from typing import Any, Dict, List, Mapping, NamedTuple, Optional, Sequence, Tup
 import pytest
 
 from harness import (EXPLAIN, FILTER, FOUR, LRUP_RECHECK, NONE_BAD, PACKERS, PROGRAM, ROOT, TRIM,
-                     Ran, by_another, example, generated, named, needs, pack, run, started, until,
-                     written)
+                     VERSION, Ran, by_another, example, executable, generated, in_shell, named,
+                     needs, output_of, pack, run, started, until, written)
 from lrat import lrat_fault
 from proof_forms import Clause, read_formula
 from records import only_with
@@ -112,8 +112,7 @@ def test_the_printed_command_checks_the_lrat_text(words: str, options: List[obje
     printed, = [line.split(": lrupd ")[1] for line in answer.comments
                 if line.startswith("proof.lrat: ") and ": lrupd --" in line]
     done = run([PROGRAM, *shlex.split(printed)], cwd=tmp_path)
-    assert (done.err, done.status) == ("", 0)
-    assert done.out.splitlines()[-1] == PROVED
+    assert output_of(done).splitlines()[-1] == PROVED
 
 
 def test_outputs_for_standard_input(formula: Path) -> None:
@@ -184,8 +183,7 @@ def test_outputs_that_cannot_be_written(words: str, said: str, formula: Path,
     lrupd = before_lrupd(f"touch {tmp_path}/began", tmp_path / "folder")
     before = sorted(os.listdir(tmp_path))
     answer = solve(["--lrupd", lrupd, *words.split(), formula], cwd=tmp_path)
-    assert (answer.out, answer.status) == ("", 1)
-    assert answer.said == f"lrup-solve: cannot write {said}\n"
+    assert answer.ran == Ran("", f"lrup-solve: cannot write {said}\n", 1)
     assert sorted(os.listdir(tmp_path)) == before
 
 
@@ -196,7 +194,7 @@ def programs_beside(tools: Mapping[str, str], work: Path) -> Path:
     for path in (SOLVE, SOLVE.with_name("lrup-engines"), MODELS / "lrup-model"):
         shutil.copy(path, work / "bin")
     for name, body in tools.items():
-        written(f"#!/bin/sh\n{body}\n", work, f"bin/{name}").chmod(0o755)
+        executable(body, work, f"bin/{name}")
     return work / "bin" / "lrup-solve"
 
 
@@ -581,8 +579,7 @@ def test_the_fields_of_about(engines: int, is_piped: bool, tested: Hooks, tmp_pa
     assert fields["words"].endswith("--proofs d" if is_piped else f"--proofs d '{formula}'")
     assert fields["folder"] == str(tmp_path)
     assert fields["verdict"] == PROVED
-    version = (ROOT / "VERSION").read_text().strip()
-    assert fields["programs"].startswith(f"lrupd {version}; lrup-solve {version}, with CaDiCaL ")
+    assert fields["programs"].startswith(f"lrupd {VERSION}; lrup-solve {VERSION}, with CaDiCaL ")
     assert f"`{fields['kit']}`" in (ROOT / "README.md").read_text()
     assert fields["record"].split(" round")[0] == str(number_of_rounds(tmp_path / "d"))
 
@@ -681,8 +678,7 @@ def test_streams_are_unpacked_though_a_standard_stream_is_closed(
     pack(record / "round-1.stream-1", "xz")
     tools: List[List[object]] = [[TRIM, "--lrat", "lrat"], [EXPLAIN]]
     for words in tools:
-        done = run(["sh", "-c", f'exec "$@" {closing}', "sh", *words, formula, "d"], cwd=tmp_path)
-        assert (done.err, done.status) == ("", 0), words
+        output_of(in_shell(f'exec "$@" {closing}', "sh", *words, formula, "d", cwd=tmp_path))
     assert lrat_fault(read_formula(formula), (tmp_path / "lrat").read_text()) == ""
 
 
@@ -698,8 +694,7 @@ def test_two_checks_at_a_time(tmp_path: Path) -> None:
     check_again(record)
     done = by_another(["sh", "-c", "sh d/command > /dev/null & sh d/command && wait \"$!\""],
                       tmp_path)
-    assert (done.err, done.status) == ("", 0)
-    assert done.out.splitlines()[-1] == PROVED
+    assert output_of(done).splitlines()[-1] == PROVED
 
 
 @pytest.fixture
@@ -796,7 +791,7 @@ def test_no_shell_runs_a_part_of_a_name(names: Tuple[str, str], assumes: bool, t
     """Neither in the record's command, nor in the output of -v, nor in a solver's command. A
     program with such a name would leave a mark."""
     mark, programs = tmp_path / "mark", tmp_path / "programs"
-    written("#!/bin/sh\n: > \"$MARK\"\n", programs, "ran").chmod(0o755)
+    executable(": > \"$MARK\"", programs, "ran")
     more = {"MARK": str(mark), "PATH": f"{programs}:{os.environ['PATH']}"}
     folder = tmp_path / names[0]
     formula = written(example("bmc.cnf").read_text(), folder, names[0])

@@ -12,17 +12,17 @@ import signal
 import subprocess
 import time
 from pathlib import Path
-from typing import Callable, List, Mapping, Optional, Sequence, Tuple
+from typing import Callable, Mapping, Optional, Sequence, Tuple
 
 import pytest
 
 from hard_formulas import miter, parity
-from harness import (LIMIT, Ran, dimacs, example, generated, named, random_clauses, started, until,
-                     written)
+from harness import (LIMIT, Ran, dimacs, example, executable, generated, named, random_clauses,
+                     until, written)
 from records import saved_rounds, want_no_other, way_on
-from solving import (EARLY, FRONT, READING, Answer, before_lrupd, check_again, command,
-                     engines_refusing, in_environment, is_alive, marked, none_left, of_process,
-                     processes_of_run, solve, want_answer)
+from solving import (EARLY, FRONT, READING, Answer, before_lrupd, check_again, end_of,
+                     engines_refusing, is_alive, marked, none_left, of_process, processes_of_run,
+                     solve, started_run, until_there, want_answer)
 
 pytestmark = pytest.mark.usefixtures("solve_for_tests")
 NAMES = [FRONT, "supervisor", "lrup-engines", "engine 1", "engine 2", "filter 1", "filter 2",
@@ -38,19 +38,17 @@ def killed_one(name: str, after: float, formula: Path, hooks: Mapping[str, objec
     ended by then."""
     files, mark = work / name.replace(" ", "-"), marked(work)
     files.mkdir()
-    with started(command(["-j", "2", "--memory", "64M", formula], hooks),
-                 env={**in_environment(hooks), "TMPDIR": str(files)}, stdout=subprocess.PIPE,
-                 stderr=subprocess.PIPE, text=True) as running:
-        until(f"{name} is there",
-              lambda: name in processes_of_run(running.pid) or running.poll() is not None)
+    with started_run(["-j", "2", "--memory", "64M", formula], hooks,
+                     {"TMPDIR": str(files)}) as running:
+        until_there(name, running)
         time.sleep(after)
         pid = processes_of_run(running.pid).get(name)
         if pid and is_alive(pid):
             os.kill(pid, signal.SIGKILL)
-        out, said = running.communicate(timeout=LIMIT)
+        answer = end_of(running)
     none_left(mark)
     until("its files are removed", lambda: not os.listdir(files), SOON)
-    return Answer(Ran(out, said, running.returncode))
+    return answer
 
 
 @pytest.mark.seeds(10)
@@ -89,9 +87,8 @@ def test_killed_at_once(name: str, tmp_path: Path) -> None:
     for number in range(EARLY_KILLS):
         files = tmp_path / str(number)
         files.mkdir()
-        with started(command(["-j", "2", formula], {}),
-                     env={**in_environment({}), "TMPDIR": str(files)}, stdout=subprocess.DEVNULL,
-                     stderr=subprocess.DEVNULL) as running:
+        with started_run(["-j", "2", formula], {}, {"TMPDIR": str(files)},
+                         stdout=subprocess.DEVNULL, stderr=subprocess.DEVNULL) as running:
             while not os.listdir(files):
                 pass
             pid = running.pid
@@ -110,15 +107,13 @@ def test_killed_at_once(name: str, tmp_path: Path) -> None:
 def lrupd_killed(words: Sequence[object], hooks: Optional[Mapping[str, object]], files: Path,
                  moment: Callable[[], None]) -> Answer:
     """A run whose lrupd is killed at a moment, unless the run has ended by then."""
-    with started(command(words, hooks), env=in_environment(hooks, {"TMPDIR": str(files)}),
-                 text=True, stdout=subprocess.PIPE, stderr=subprocess.PIPE) as running:
-        until("lrupd is there", lambda: "lrupd" in processes_of_run(running.pid)
-              or running.poll() is not None)
+    with started_run(words, hooks, {"TMPDIR": str(files)}) as running:
+        until_there("lrupd", running)
         moment()
         pid = processes_of_run(running.pid).get("lrupd", 0)
         if pid and is_alive(pid):
             os.kill(pid, signal.SIGKILL)
-        return Answer(Ran(*running.communicate(timeout=LIMIT), running.returncode))
+        return end_of(running)
 
 
 def has_ended_killed(answer: Answer, kept: Path, formula: Path) -> None:
@@ -237,15 +232,14 @@ def killed_in_a_save(refused: str, signals: Sequence[int], work: Path) -> Tuple[
     engines, is_late = engines_refusing(refused, work)
     hooks = {"SAME_WORDS": 1, "FIRST_WORDS": 5000}
     words = ["--engines", engines, "-j", "1", "--proofs", work / "kept", formula]
-    with started(command(words, hooks), env=in_environment(hooks, {"TMPDIR": str(files)}),
-                 text=True, stdout=subprocess.PIPE, stderr=subprocess.PIPE) as running:
+    with started_run(words, hooks, {"TMPDIR": str(files)}) as running:
         until("a call is late", is_late.exists)
         os.kill(processes_of_run(running.pid)["lrupd"], signal.SIGKILL)
         begun = time.monotonic()
         for number in signals:
             time.sleep(0.3)
             running.send_signal(number)
-        answer = Answer(Ran(*running.communicate(timeout=LIMIT), running.returncode))
+        answer = end_of(running)
     seconds = time.monotonic() - begun
     none_left(mark)
     until("its files are removed", lambda: not os.listdir(files), SOON)
@@ -284,11 +278,10 @@ def test_signals_during_a_save_that_hangs(tmp_path: Path) -> None:
 def test_an_unpacker_ends_with_the_front(monkeypatch: pytest.MonkeyPatch, tmp_path: Path) -> None:
     """The program that unpacks the formula hangs, so a closed pipe doesn't end it."""
     mark, begun = marked(tmp_path), tmp_path / "begun"
-    unpacker = written(f"#!/bin/sh\ntouch {begun}\nexec sleep 1000\n", tmp_path, "zstd")
-    unpacker.chmod(0o755)
+    executable(f"touch {begun}\nexec sleep 1000", tmp_path, "zstd")
     monkeypatch.setenv("PATH", str(tmp_path), prepend=":")
-    with started(command([written("", tmp_path, "formula.cnf.zst")]),
-                 stdout=subprocess.DEVNULL, stderr=subprocess.DEVNULL) as running:
+    with started_run([written("", tmp_path, "formula.cnf.zst")], stdout=subprocess.DEVNULL,
+                     stderr=subprocess.DEVNULL) as running:
         until("it unpacks", begun.exists)
         running.kill()
     none_left(mark)

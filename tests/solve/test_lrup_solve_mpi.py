@@ -19,13 +19,13 @@ from typing import Dict, List, Mapping, Optional, Sequence, Set
 
 import pytest
 
-from harness import (FILTERS, FOUR, LIBRARY, LIMIT, ROOT, SUPPORT, Ran, compiled, dimacs, example,
-                     generated, lacking, named, random_clauses, run, until, written)
+from harness import (FILTERS, FOUR, LIBRARY, ROOT, SUPPORT, Ran, compiled, dimacs, example,
+                     generated, lacking, named, output_of, random_clauses, run, until, written)
 from lrat import lrat_fault
 from proof_forms import read_formula
 from records import recorded, saved_rounds, way_on, whole
-from solving import (Answer, built, check_again, children_of, command, in_environment, is_alive,
-                     marked, of_process, want_answer)
+from solving import (Answer, built, check_again, children_of, command, end_of, in_environment,
+                     is_alive, marked, of_process, says, want_answer)
 
 # Now and then mpirun itself (Open MPI 4.1.4) ends by a segmentation fault after the answer: it
 # calls code that isn't mapped any more. It says so on standard error, where tests want nothing.
@@ -92,19 +92,14 @@ def of_processes(answer: Answer, what: str) -> List[int]:
             for number in re.findall(rf"^c process \d+: .*?([\d,]+) {what}", answer.out, re.M)]
 
 
-def says(answer: Answer, cause: str) -> bool:
-    return any(re.search(cause, line) for line in answer.comments)
-
-
 def test_an_exchange_without_mpi(tmp_path: Path) -> None:
     """Sends and places clauses without MPI."""
     tool = ROOT / "tools" / "lrup-engines"
     includes = [f"-I{folder}" for folder in (tool, LIBRARY, FILTERS)]
     outbox = compiled(tmp_path / "outbox.o", [tool / "outbox.c"], "-std=c11", "-c", *includes)
     sources = [SUPPORT / "exchange.cpp", tool / "mpi" / "mpi_exchange.cpp", outbox]
-    done = run([*shlex.split(os.environ.get("CXX", "c++")), "-std=c++17", "-Wall", "-Wextra", "-o",
-                tmp_path / "exchange", *includes, *sources])
-    assert (done.err, done.status) == ("", 0)
+    output_of(run([*shlex.split(os.environ.get("CXX", "c++")), "-std=c++17", "-Wall", "-Wextra",
+                   "-o", tmp_path / "exchange", *includes, *sources]))
     assert run([tmp_path / "exchange"]) == Ran("", "", 0)
 
 
@@ -388,8 +383,7 @@ def test_words_that_are_refused(processes: int, words: List[str], said: str, bef
     ("--help", "usage: lrup-solve "), ("--version", "lrup-solve ")])
 def test_help_and_version(word: str, beginning: str) -> None:
     """The text is printed once."""
-    out, said, status = run(launched(3, [word]))
-    assert (said, status) == ("", 0)
+    out = output_of(run(launched(3, [word])))
     assert out.startswith(beginning)
     assert out.count(beginning) == 1
 
@@ -397,11 +391,9 @@ def test_help_and_version(word: str, beginning: str) -> None:
 def test_a_formula_that_lrupd_refuses(tmp_path: Path) -> None:
     """The message has lrupd's words, with details about the file."""
     formula = written("p cnf 2 1\n1 3 0\n", tmp_path)
-    answer = solve(2, ["-j", "1", formula])
-    assert (answer.out, answer.status) == ("", 1)
-    assert answer.said == (
-        f"lrupd: formula refused: variable out of range in line 2 ({formula}, line 2: variable 3, "
-        "above the header's 2: the header should be 'p cnf 3 1')\n")
+    assert solve(2, ["-j", "1", formula]).ran == Ran(
+        "", f"lrupd: formula refused: variable out of range in line 2 ({formula}, line 2: variable "
+        "3, above the header's 2: the header should be 'p cnf 3 1')\n", 1)
 
 
 @pytest.mark.parametrize("body, end", [
@@ -464,12 +456,12 @@ class Running:
     def end(self) -> Answer:
         """No process is left, and no folder of the front."""
         began = time.monotonic()
-        out, said = self.main.communicate(timeout=LIMIT)
+        answer = end_of(self.main)
         self.seconds = time.monotonic() - began
         pids = [pid for ids in self.ids for pid in ids.values()]
         until("all have ended", lambda: not any(map(is_alive, pids)))
         until("its folder is removed", lambda: not list(self.folder.glob("lrup-solve-*")))
-        return Answer(Ran(out, said, self.main.returncode))
+        return answer
 
 
 def names_of(number: int) -> Set[str]:

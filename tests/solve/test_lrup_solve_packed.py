@@ -10,19 +10,18 @@ import re
 import shlex
 import shutil
 import signal
-import stat
 import subprocess
 from pathlib import Path
 from typing import Dict, List, Optional, Sequence
 
 import pytest
 
-from harness import (EXPLAIN, LIMIT, LRUP_RECHECK, NONE_BAD, PROGRAM, Ran, generated, needs, pack,
-                     run, started, until, written)
+from harness import (EXPLAIN, LRUP_RECHECK, NONE_BAD, PROGRAM, Ran, executable, generated, needs,
+                     output_of, pack, run, until)
 from records import (checkpoints, killed_once, only_with, recorded, saved_rounds, way_on,
                      whole)
-from solving import (Answer, children_of, command, in_environment, is_alive, listed, none_left,
-                     solve, want_answer)
+from solving import (Answer, children_of, end_of, is_alive, listed, none_left, solve, started_run,
+                     want_answer)
 
 pytestmark = pytest.mark.usefixtures("solve_for_tests", "zstd")
 SMALL = {"SAME_WORDS": 1, "SLICE": 20, "FIRST_WORDS": 4000, "PACKED_FROM": 1}
@@ -76,9 +75,7 @@ def unpacked(path: Path) -> bytes:
 def with_zstd(body: str, work: Path) -> Dict[str, str]:
     """An environment in which zstd does this first if it packs."""
     own = shlex.quote(str(shutil.which("zstd")))
-    path = written(f"#!/bin/sh\ncase $1 in -1*) {body};; esac\nexec {own} \"$@\"\n", work,
-                   "bin/zstd")
-    path.chmod(path.stat().st_mode | stat.S_IXUSR)
+    path = executable(f"case $1 in -1*) {body};; esac\nexec {own} \"$@\"", work, "bin/zstd")
     return {"PATH": f"{path.parent}:{os.environ['PATH']}"}
 
 
@@ -107,9 +104,8 @@ def want_proved(kept: Path, formula: Path, work: Path) -> None:
     want_tidy(kept)
     whole(kept, formula, work)
     assert run([EXPLAIN, formula, kept]) == Ran(f"{NONE_BAD}\n", "", 0)
-    done = run([LRUP_RECHECK, "--lrupd", PROGRAM, kept])
-    assert (done.err, done.status) == ("", 0)
-    assert done.out.splitlines()[-1] == "s UNSATISFIABLE"
+    checked = run([LRUP_RECHECK, "--lrupd", PROGRAM, kept])
+    assert output_of(checked).splitlines()[-1] == "s UNSATISFIABLE"
     about = (kept / "about").read_text().splitlines()
     assert (NOTE in about) == bool(packed(kept))
     for name in packed(kept):
@@ -136,12 +132,11 @@ def test_runs_that_get_a_signal_pack_what_they_add(mark: str, kept: Path, tmp_pa
     """Each run goes on from the packed rounds of the ones before."""
     formula, rounds = generated("pigeons 10", tmp_path), 0
     for word in ("--proofs", "--resume", "--resume"):
-        with started(command(["-j", "2", word, kept, formula], SMALL), env=in_environment(SMALL),
-                     text=True, stdout=subprocess.PIPE, stderr=subprocess.PIPE) as running:
+        with started_run(["-j", "2", word, kept, formula], SMALL) as running:
             first = f"round-{rounds + 1}.stream-1.zst"
             until(f"{first} is there", lambda: first in replaced(kept))
             running.send_signal(signal.SIGTERM)
-            answer = Answer(Ran(*running.communicate(timeout=60), running.returncode))
+            answer = end_of(running, 60)
         none_left(mark)
         before, (rounds, is_lost) = rounds, way_on(answer, kept, formula)
         assert rounds > before, answer.out
@@ -178,9 +173,7 @@ def tree(pid: int) -> Dict[str, int]:
 def test_a_packer_that_is_killed(name: str, mark: str, kept: Path, tmp_path: Path) -> None:
     """The run goes on, tells it once, and packs these streams with the next round's."""
     formula, slow = generated("pigeons 8", tmp_path), with_zstd("sleep 1", tmp_path)
-    with started(command(["-j", "2", "--proofs", kept, formula], SMALL),
-                 env=in_environment(SMALL, slow), text=True, stdout=subprocess.PIPE,
-                 stderr=subprocess.PIPE) as running:
+    with started_run(["-j", "2", "--proofs", kept, formula], SMALL, slow) as running:
         for _ in range(2):
             until("something is packed", lambda: name in tree(running.pid)
                   or running.poll() is not None)
@@ -188,7 +181,7 @@ def test_a_packer_that_is_killed(name: str, mark: str, kept: Path, tmp_path: Pat
             if pid:
                 os.kill(pid, signal.SIGKILL)
                 until("it has ended", lambda: not is_alive(pid))
-        answer = Answer(Ran(*running.communicate(timeout=LIMIT), running.returncode))
+        answer = end_of(running)
     none_left(mark)
     want_answer(answer, 20)
     assert answer.comments.count(NOT_YET) == 1, answer.out
@@ -199,8 +192,8 @@ def test_a_run_that_is_killed_while_it_packs(formula: Path, mark: str, kept: Pat
                                              tmp_path: Path) -> None:
     """Everything is killed at once. The resumed run leaves no trace of that."""
     slow = with_zstd("head -c 1000; sleep 100", tmp_path)
-    with started(command(["-j", "2", "--proofs", kept, formula], SMALL),
-                 env=in_environment(SMALL, slow), stdout=subprocess.DEVNULL) as running:
+    with started_run(["-j", "2", "--proofs", kept, formula], SMALL, slow,
+                     stdout=subprocess.DEVNULL) as running:
         until("something is packed", lambda: list(kept.glob(".*.zst.new")) != []
               and saved_rounds(kept) > 3)
         running.kill()
@@ -238,8 +231,8 @@ def test_without_zstd_a_packed_record_is_not_resumed(formula: Path, kept: Path,
     before = {path: path.read_bytes() for path in kept.iterdir()}
     words = ["-j", "2", "--resume", kept, formula]
     answer = solve(words, tested=SMALL, env_more=only_with([], tmp_path))
-    assert (answer.out, answer.status) == ("", 1)
-    assert answer.said == f"lrup-solve: {kept}/{packed(kept)[0]}: no zstd on the PATH\n"
+    said = f"lrup-solve: {kept}/{packed(kept)[0]}: no zstd on the PATH\n"
+    assert answer.ran == Ran("", said, 1)
     assert {path: path.read_bytes() for path in kept.iterdir()} == before
     want_answer(solve(words, tested=SMALL), 20)
     want_proved(kept, formula, tmp_path)

@@ -17,15 +17,15 @@ from typing import Callable, Mapping, Optional, Sequence
 
 import pytest
 
-from harness import (COUNT, FOUR, LIMIT, PROGRAM, ROOT, Ran, dimacs, generated, named, needs,
+from harness import (COUNT, FOUR, PROGRAM, ROOT, Ran, dimacs, generated, named, needs,
                      random_clauses, run, started, until, written)
 from records import (CHANGES, UNKNOWN, checkpoints, recorded, saved_rounds, want_no_other,
                      way_on, whole, with_digests)
 from solving import (ANSWERS, EARLY, SOLVE, Answer, before_lrupd, check_again, children_of, command,
-                     end_all, end_group, engines_refusing, in_environment, listed, marked,
-                     none_left, solve, want_answer)
+                     end_all, end_group, end_of, engines_refusing, in_environment, listed, marked,
+                     none_left, solve, started_run, want_answer)
 
-pytestmark = pytest.mark.usefixtures("solve_for_tests")
+pytestmark = pytest.mark.usefixtures("solve_for_tests", "mark")
 SMALL = {"SAME_WORDS": 1, "SLICE": 20, "FIRST_WORDS": 4000}
 PROVED, UNDER = "s UNSATISFIABLE", "s UNSATISFIABLE UNDER ASSUMPTIONS"
 SCRIPT = ROOT / "examples" / "resume" / "slurm.sh"
@@ -38,16 +38,14 @@ def ended(words: Sequence[object], tested: Mapping[str, object], after: float,
           number: int = signal.SIGKILL) -> Answer:
     """A run that gets a signal this many seconds after its start, unless it has ended by then. No
     process is left."""
-    mark = f"LRUP_MARK={os.environ['LRUP_MARK']}"
-    with started(command(words, tested), env=in_environment(tested), text=True,
-                 stdout=subprocess.PIPE, stderr=subprocess.PIPE) as running:
+    with started_run(words, tested) as running:
         try:
-            out, said = running.communicate(timeout=after)
+            answer = end_of(running, after)
         except subprocess.TimeoutExpired:
             running.send_signal(number)
-            out, said = running.communicate(timeout=LIMIT)
-    none_left(mark)
-    return Answer(Ran(out, said, running.returncode))
+            answer = end_of(running)
+    none_left(f"LRUP_MARK={os.environ['LRUP_MARK']}")
+    return answer
 
 
 # Runs that are killed.
@@ -57,7 +55,6 @@ def ended(words: Sequence[object], tested: Mapping[str, object], after: float,
 def test_killed(seed: int, tmp_path: Path) -> None:
     """Kills a run again and again, each time with a random number of engines."""
     numbers = random.Random(f"{seed} resumed")
-    marked(tmp_path)
     size = numbers.randrange(130, 190)
     formula = written(dimacs(size, random_clauses(
         numbers, size, round(numbers.uniform(4.1, 4.6) * size))), tmp_path)
@@ -102,7 +99,6 @@ def test_other_options(first: Sequence[str], second: Sequence[str], text: str,
     """Resumes with other options than before, and with more or fewer streams."""
     if "--solver" in second:
         needs("cadical")
-    marked(tmp_path)
     kept, formula, cube = (tmp_path / "kept", generated("pigeons 7", tmp_path),
                            written("1 0\n", tmp_path, "cube"))
     words = [[word.replace("CUBE", str(cube)) for word in some] for some in (first, second)]
@@ -122,7 +118,6 @@ def test_other_options(first: Sequence[str], second: Sequence[str], text: str,
 
 def test_a_formula_by_a_pipe(tmp_path: Path) -> None:
     """The formula comes from a pipe again, or from the record."""
-    marked(tmp_path)
     text, kept = generated("pigeons 7", tmp_path).read_text(), tmp_path / "kept"
     for given, words in ((text, ()), (None, (kept / "formula.cnf",))):
         with started(command(["--proofs", kept, "--replace"], SMALL), env=in_environment(SMALL),
@@ -148,7 +143,6 @@ def test_names_of_inputs_in_the_record(place: str, folder: str, formula: str, cu
                                        tmp_path: Path) -> None:
     """The record has the only copies of inputs that came from pipes. They stay, whatever names lead
     to them."""
-    marked(tmp_path)
     kept, text = tmp_path / "kept", generated("pigeons 7", tmp_path).read_text()
     ends = os.pipe()
     os.write(ends[1], b"1 0\n")
@@ -179,7 +173,6 @@ def test_names_of_inputs_in_the_record(place: str, folder: str, formula: str, cu
 
 def test_a_file_of_the_record_as_cubes(tmp_path: Path) -> None:
     """No other file of the record can be an input, since it would be removed or overwritten."""
-    marked(tmp_path)
     formula, kept = generated("pigeons 7", tmp_path), tmp_path / "d"
     recorded(["-j", "2", formula], kept, 1, SMALL)
     cubes = kept / "round-1.stream-1"
@@ -200,7 +193,6 @@ TOO_LONG = f" is longer than a run writes it{NOT_RESUMED}"
 def test_endless_files(name: str, how: str, said: str, tmp_path: Path) -> None:
     """A FIFO in the place of a record's text isn't waited for, a device without end isn't read, nor
     is a file that is larger than memory."""
-    marked(tmp_path)
     formula, path = generated("pigeons 7", tmp_path), tmp_path / "d" / name
     recorded(["-j", "2", formula], tmp_path / "d", 1, SMALL)
     path.unlink(missing_ok=True)
@@ -217,7 +209,6 @@ def test_endless_files(name: str, how: str, said: str, tmp_path: Path) -> None:
 
 def test_moved(tmp_path: Path) -> None:
     """The record and the formula were renamed meanwhile."""
-    marked(tmp_path)
     formula, kept = generated("pigeons 7", tmp_path), tmp_path / "kept"
     recorded(["-j", "2", formula], kept, 2, SMALL)
     formula, kept = formula.rename(tmp_path / "an other;name"), kept.rename(tmp_path / "-d")
@@ -227,7 +218,6 @@ def test_moved(tmp_path: Path) -> None:
 
 
 def test_nothing_was_saved(tmp_path: Path) -> None:
-    marked(tmp_path)
     formula, kept = generated("pigeons 7", tmp_path), tmp_path / "kept"
     with started(command(["--proofs", kept, formula]), stdout=subprocess.DEVNULL) as running:
         until("streams are there", lambda: (kept / "formula.sha256").exists())
@@ -240,7 +230,6 @@ def test_nothing_was_saved(tmp_path: Path) -> None:
 
 def test_a_slow_lrupd(tmp_path: Path) -> None:
     """lrupd gets the saved rounds late: meanwhile engines fill a row, and wait for lrupd."""
-    marked(tmp_path)
     formula, kept = generated("pigeons 7", tmp_path), tmp_path / "kept"
     recorded(["-j", "2", formula], kept, 3, SMALL)
     lrupd = before_lrupd("sleep 1", tmp_path)
@@ -260,21 +249,18 @@ def test_a_slow_lrupd(tmp_path: Path) -> None:
 def test_saved_at_the_end(number: Optional[signal.Signals], tested: Mapping[str, object],
                           tmp_path: Path) -> None:
     """The current round is saved, within some seconds, and the run can be resumed from there."""
-    marked(tmp_path)
     formula, kept, words = generated("pigeons 10", tmp_path), tmp_path / "kept", ["--proofs"]
     rounds = 0
     for _ in range(2):
         limit = ["--time", "1.5"] if number is None else []
-        with started(command(["-j", "2", *limit, *words, kept, formula], tested),
-                     env=in_environment(tested), text=True, stdout=subprocess.PIPE,
-                     stderr=subprocess.PIPE) as running:
+        with started_run(["-j", "2", *limit, *words, kept, formula], tested) as running:
             if number is not None:
                 until("there is something to save",
                       lambda: any(path.stat().st_size > 0
                                   for path in kept.glob(f"round-{rounds + 1}.stream-*")))
                 time.sleep(1)
                 running.send_signal(number)
-            answer = Answer(Ran(*running.communicate(timeout=SOON), running.returncode))
+            answer = end_of(running, SOON)
         none_left(f"LRUP_MARK={os.environ['LRUP_MARK']}")
         assert (answer.answers, answer.status) == ([UNKNOWN], -number if number else 0), (
             answer.out + answer.said)
@@ -306,14 +292,11 @@ def test_saved_while_lrupd_reads(tmp_path: Path) -> None:
 
 def test_a_second_signal(tmp_path: Path) -> None:
     """While lrupd is stopped, nothing can be saved: the second signal ends the run at once."""
-    marked(tmp_path)
     formula, kept = generated("pigeons 11", tmp_path), tmp_path / "kept"
     recorded(["-j", "2", formula], kept, 1, SMALL)
     for count in (1, 2):
         before = saved_rounds(kept)
-        with started(command(["-j", "2", "--resume", kept, formula], SMALL),
-                     env=in_environment(SMALL), text=True, stdout=subprocess.PIPE,
-                     stderr=subprocess.PIPE) as running:
+        with started_run(["-j", "2", "--resume", kept, formula], SMALL) as running:
             until("a round more is saved", lambda: saved_rounds(kept) > before)
             os.kill(children_of(running.pid)["lrupd"], signal.SIGSTOP)
             time.sleep(0.5)         # so that a round is in progress
@@ -322,7 +305,7 @@ def test_a_second_signal(tmp_path: Path) -> None:
             if count == 2:
                 time.sleep(0.5)
                 running.send_signal(signal.SIGINT)
-            answer = Answer(Ran(*running.communicate(timeout=SOON), running.returncode))
+            answer = end_of(running, SOON)
         lasted = time.monotonic() - begun
         assert (answer.answers, answer.status) == ([UNKNOWN], -signal.SIGTERM), (
             answer.out + answer.said)
@@ -332,7 +315,6 @@ def test_a_second_signal(tmp_path: Path) -> None:
 
 def test_saved_by_the_clock(tmp_path: Path) -> None:
     """--save-every ends a round although its row has room."""
-    marked(tmp_path)
     formula, kept = generated("pigeons 11", tmp_path), tmp_path / "kept"
     answer = solve(["-v", "-j", "2", "--time", "3", "--save-every", "0.25", "--proofs",
                     kept, formula])
@@ -383,7 +365,6 @@ def test_in_jobs(tmp_path: Path) -> None:
 @pytest.mark.parametrize("status", [10, 20])
 def test_changed(status: int, seed: int, tmp_path: Path) -> None:
     """Makes each change to a copy of one record."""
-    marked(tmp_path)
     numbers, first = random.Random(seed), tmp_path / "first"
     formula = hard(status, tmp_path)
     recorded(["-j", "2", formula], first, 3, SMALL)
@@ -403,7 +384,6 @@ def test_changed(status: int, seed: int, tmp_path: Path) -> None:
 def test_a_stream_was_changed(number: int, tmp_path: Path) -> None:
     """If a stream of that round was changed, the record keeps the rounds before it, and the run can
     be resumed from there."""
-    marked(tmp_path)
     formula, kept = generated("pigeons 7", tmp_path), tmp_path / "kept"
     recorded(["-j", "2", formula], kept, 3, SMALL)
     path, rounds = kept / f"round-{number}.stream-2", saved_rounds(kept)
@@ -472,7 +452,6 @@ FORGED = [contradictory, another_beginning, refuting_stream, empty_streams, larg
 @pytest.mark.parametrize("change", FORGED)
 def test_forged(status: int, change: Callable[[Path], None], tmp_path: Path) -> None:
     """A forger of records may also choose the digests."""
-    marked(tmp_path)
     kept, formula = tmp_path / "kept", hard(status, tmp_path)
     recorded(["-j", "2", formula], kept, 3, SMALL)
     change(kept)
@@ -498,7 +477,6 @@ def refused(words: Sequence[object], said: str, work: Path) -> None:
 
 def test_other_inputs_and_records(tmp_path: Path) -> None:
     """A formula or assumptions other than the record's, and records that can't be resumed."""
-    marked(tmp_path)
     formula, cube, other = (generated("pigeons 8", tmp_path), written("1 0\n", tmp_path, "cube"),
                             written("2 0\n", tmp_path, "other"))
     recorded(["-j", "2", "--assume", cube, formula], tmp_path / "d", 2, SMALL)
@@ -534,7 +512,6 @@ def test_other_inputs_and_records(tmp_path: Path) -> None:
 def test_saved_rounds_stay(tmp_path: Path) -> None:
     """Saved rounds of an unfinished run stay, even if lrup-check is run, unless --replace is
     given."""
-    marked(tmp_path)
     formula, kept = generated("pigeons 8", tmp_path), tmp_path / "d;"
     proof = written("", tmp_path, "proof")
     recorded(["-j", "2", formula], kept, 2, SMALL)
@@ -557,7 +534,6 @@ def test_saved_rounds_stay(tmp_path: Path) -> None:
 
 def test_no_formula_is_named(tmp_path: Path) -> None:
     """If the formula isn't named, it has to come from standard input."""
-    marked(tmp_path)
     formula, kept = generated("pigeons 7", tmp_path), tmp_path / "d"
     recorded(["-j", "2", formula], kept, 1, SMALL)
     name = "lrup-solve: name the formula: lrup-solve --resume d FORMULA\n"
@@ -572,7 +548,6 @@ def test_no_formula_is_named(tmp_path: Path) -> None:
 
 def test_two_runs(tmp_path: Path) -> None:
     """A record is refused while another run has it, but not right after that run is killed."""
-    marked(tmp_path)
     formula, kept = generated("pigeons 11", tmp_path), tmp_path / "d"
     with started(command(["-j", "1", "--proofs", kept, formula]),
                  stdout=subprocess.DEVNULL) as running:
@@ -588,7 +563,6 @@ def test_two_runs(tmp_path: Path) -> None:
 
 def test_a_round_cannot_be_saved(tmp_path: Path) -> None:
     """A comment says what can't be saved, and the run continues."""
-    marked(tmp_path)
     formula, kept = generated("pigeons 7", tmp_path), tmp_path / "kept"
     lrupd = before_lrupd(f"mkdir -p {kept}/checkpoint-2.cnf", tmp_path)
     answer = solve(["-j", "2", "--lrupd", lrupd, "--proofs", kept, formula], tested=SMALL)
@@ -601,7 +575,6 @@ def test_a_round_cannot_be_saved(tmp_path: Path) -> None:
 def test_not_on_disk(tmp_path: Path) -> None:
     """A round's file that can't be brought to disk may have lost bytes: what was saved before it
     stays, and a comment says so. Each saver's first call is refused."""
-    marked(tmp_path)
     formula, kept = generated("pigeons 11", tmp_path), tmp_path / "kept"
     recorded(["-j", "1", formula], kept, 2, SMALL)
     rounds, names = saved_rounds(kept), [f"checkpoint-{saved_rounds(kept)}.cnf", "rounds.sha256"]

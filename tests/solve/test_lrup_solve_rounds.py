@@ -20,10 +20,10 @@ from typing import Dict, List, Mapping, Sequence
 import pytest
 
 from harness import (LIMIT, LRUP_RECHECK, PROGRAM, Ran, dimacs, example, generated, link_over,
-                     named, random_clauses, run, until, written)
-from solving import (EARLY, Answer, check_again, children_of, command, end_group, in_environment,
-                     in_place_of_lrupd, is_alive, kill_children, of_process, random_formula,
-                     rests_on, says, sleep, solve, want_answer, want_cause)
+                     named, output_of, random_clauses, run, until, written)
+from solving import (EARLY, Answer, Run, check_again, children_of, end_group, in_place_of_lrupd,
+                     is_alive, kill_children, of_process, random_formula, rests_on, says, sleep,
+                     solve, want_answer, want_cause)
 
 pytestmark = pytest.mark.usefixtures("solve_for_tests")
 SMALL = {"SAME_WORDS": 1, "SLICE": 40}      # rows that don't grow
@@ -69,9 +69,8 @@ def test_rounds(words: str, size: int, most: int, options: List[str], status: in
                  for name in ("sizes", "stream-1")]
         assert [name for name in names if not (kept / name).exists()] == []
         assert not (kept / f"round-{rounds + 1}.stream-1").exists()
-        found = run([LRUP_RECHECK, "--lrupd", PROGRAM, kept])
-        assert (found.err, found.status) == ("", 0)
-        assert found.out.split("\n", 1)[1] == (kept / "report").read_text()
+        found = output_of(run([LRUP_RECHECK, "--lrupd", PROGRAM, kept]))
+        assert found.split("\n", 1)[1] == (kept / "report").read_text()
 
 
 @each_number_of_engines
@@ -230,38 +229,25 @@ def test_the_largest_formula(tmp_path: Path) -> None:
 # Events in a round, and between rounds.
 
 
-class Running:
+class Running(Run):
     """A run that has reached that round or a later one, at whose end lrupd will save round-N.cnf.
     With `pause`, lrupd is then stopped, and the run stays in the pause at the round's end until
-    `go_on`; slices are long, so that few clauses are taken over before the pause. Processes that
-    haven't ended are killed when the block is left."""
+    `go_on`; slices are long, so that few clauses are taken over before the pause."""
 
     def __init__(self, words: Sequence[object], number: int, work: Path, pause: bool = False,
                  **tested: object) -> None:
-        self.number, self.work, self.pause, self.folder = number, work, pause, work / "folder"
-        self.folder.mkdir(exist_ok=True)
-        hooks: Dict[str, object] = {"SLICE": 5000 if pause else 40, "SAME_WORDS": 1, **tested}
-        # Otherwise freed memory would be kept.
-        more = {"TMPDIR": str(self.folder), "ASAN_OPTIONS": "quarantine_size_mb=1"}
-        self.process = subprocess.Popen(command(["-v", *words], hooks), stdout=subprocess.PIPE,
-                                        stderr=subprocess.PIPE, text=True,
-                                        env=in_environment(hooks, more), start_new_session=True)
-        self.children: Dict[str, int] = {}
+        self.number, self.work, self.pause = number, work, pause
+        (work / "folder").mkdir(exist_ok=True)
+        super().__init__(words, {"SLICE": 5000 if pause else 40, "SAME_WORDS": 1, **tested},
+                         work / "folder",
+                         {"ASAN_OPTIONS": "quarantine_size_mb=1"})   # or freed memory is kept
         self.next = 0       # the round that follows the pause
 
-    def __enter__(self) -> "Running":
-        try:
-            until(f"round {self.number}, or the end", self.has_come)
-            if self.pause:
-                until("the pause, or the end",
-                      lambda: self.is_paused() or self.process.poll() is not None)
-        except AssertionError:
-            self.__exit__()
-            raise
-        return self
-
-    def __exit__(self, *_: object) -> None:
-        end_group(self.process)
+    def get_ready(self) -> None:
+        until(f"round {self.number}, or the end", self.has_come)
+        if self.pause:
+            until("the pause, or the end",
+                  lambda: self.is_paused() or self.process.poll() is not None)
 
     def files(self, what: str) -> Dict[int, Path]:
         """The files of this name in lrupd's folder, by their rounds."""
@@ -297,13 +283,6 @@ class Running:
     def go_on(self) -> None:
         if self.pause:
             self.stop_lrupd(signal.SIGCONT)
-
-    def end(self, limit: float = LIMIT) -> Answer:
-        """The run's output; none of its children is left, and no file."""
-        out, said = self.process.communicate(timeout=limit)
-        until("its children end", lambda: not any(map(is_alive, self.children.values())))
-        until("its files are removed", lambda: not os.listdir(self.folder))
-        return Answer(Ran(out, said, self.process.returncode))
 
 
 def kill(words: Sequence[object], number: int, pause: bool, first_words: int, names: List[str],
@@ -474,9 +453,8 @@ def test_no_folder(tmp_path: Path) -> None:
     none = tmp_path / "none"
     answer = solve(["-j", "2", generated("pigeons 11", tmp_path)],
                    tested={**SMALL, "FIRST_WORDS": 50000}, env_more={"TMPDIR": str(none)})
-    assert (answer.out, answer.status) == ("", 1)
-    assert answer.said == (f"lrup-solve: cannot make a folder {none}/lrup-solve-XXXXXX: "
-                           "No such file or directory\n")
+    assert answer.ran == Ran("", f"lrup-solve: cannot make a folder {none}/lrup-solve-XXXXXX: "
+                             "No such file or directory\n", 1)
 
 
 def test_a_full_disk(tmp_path: Path) -> None:

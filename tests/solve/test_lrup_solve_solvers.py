@@ -10,19 +10,17 @@ import re
 import shlex
 import shutil
 import signal
-import subprocess
 from pathlib import Path
 from typing import Dict, List, Mapping, Sequence, Tuple
 
 import pytest
 
-from harness import (FOUR, LIMIT, PROGRAM, SOLVER, SUPPORT, compiled, dimacs, example, generated,
-                     named, needs, run, started, until, written)
+from harness import (FOUR, LIMIT, SOLVER, SUPPORT, compiled, dimacs, example, executable, generated,
+                     named, needs, run, until, written)
 from lrat import lrat_fault
 from proof_forms import read_formula
-from solving import (SOLVE, Answer, check_again, children_of, in_environment, marked, none_left,
-                     of_process, processes_of, random_formula, solve, want_answer)
-from solving import command as command_of
+from solving import (SOLVE, Answer, check_again, children_of, marked, none_left, of_process,
+                     processes_of, random_formula, solve, started_run, want_answer)
 
 pytestmark = pytest.mark.usefixtures("solve_for_tests")
 CADICAL, AS_TEXT = "cadical -q %formula %proof", "cadical -q --no-binary %formula %proof"
@@ -376,9 +374,8 @@ def test_a_group_is_signalled_in_time(tmp_path: Path) -> None:
     mark = tmp_path / "mark"
     shim = compiled(tmp_path / "late.so", [SUPPORT / "signal_late.c"], "-std=gnu11", "-O2",
                     "-shared", "-fPIC")
-    engines = written(f"#!/bin/sh\nexport LD_PRELOAD={shim} MARK={mark}\n"
-                      f"exec {SOLVE.with_name('lrup-engines')} \"$@\"\n", tmp_path, "engines")
-    engines.chmod(0o755)
+    engines = executable(f"export LD_PRELOAD={shim} MARK={mark}\n"
+                         f"exec {SOLVE.with_name('lrup-engines')} \"$@\"", tmp_path, "engines")
     solver = "sleep 0.1; exit 0 # %formula %proof"
     answer = solve(["--engines", engines, "--solver", solver, example("bmc.cnf")])
     assert answer.answers == ["s UNKNOWN"]
@@ -391,9 +388,8 @@ def test_killed(number: signal.Signals, whom: str, tmp_path: Path) -> None:
     """The first process or an engine's process is killed: no process of the command is left. The
     formula is too hard to be solved meanwhile, and the filter has written lines: a solver that ends
     before that couldn't run."""
-    mark, command = marked(tmp_path), "sleep 1000 & " + CADICAL
-    words = [SOLVE, "--lrupd", PROGRAM, *by([command]), given("pigeons 11", tmp_path)]
-    with started(words, stdout=subprocess.PIPE, text=True) as running:
+    mark, words = marked(tmp_path), by(["sleep 1000 & " + CADICAL])
+    with started_run([*words, given("pigeons 11", tmp_path)]) as running:
         at_work: Dict[str, int] = {}
 
         def has_lines() -> bool:
@@ -418,8 +414,7 @@ def test_a_solver_is_stopped_with_engines(tmp_path: Path) -> None:
     """A solver is stopped and continued when engines are, for instance while another engine's
     filter catches up."""
     mark = marked(tmp_path)
-    with started([SOLVE, "--lrupd", PROGRAM, *by([CADICAL]), given("pigeons 11", tmp_path)],
-                 stdout=subprocess.PIPE) as running:
+    with started_run([*by([CADICAL]), given("pigeons 11", tmp_path)]) as running:
         found: Dict[str, int] = {}
 
         def all_there() -> bool:
@@ -526,9 +521,7 @@ sys.exit(20)
 def slow(work: Path, pause: float) -> str:
     """A solver that writes CaDiCaL's proof in pieces, with a pause in the middle."""
     needs("cadical")
-    program = written(SLOW, work, "slow")
-    program.chmod(0o755)
-    return f"{program} %formula %proof {pause}"
+    return f"{executable(SLOW, work, 'slow')} %formula %proof {pause}"
 
 
 def test_rounds_end_early(tmp_path: Path) -> None:
@@ -547,8 +540,7 @@ def test_resumed_by_several_filters(filters: Tuple[int, int], tmp_path: Path) ->
     """A run is ended, saves its last round, and is resumed with another number of filters."""
     mark, formula, kept = marked(tmp_path), given("random 170 4", tmp_path), tmp_path / "kept"
     words = [*by_filters(filters[0], slow(tmp_path, 60)), "--proofs", kept, formula]
-    with started(command_of(words, {"WINDOW": 7}), env=in_environment({"WINDOW": 7}),
-                 stdout=subprocess.PIPE, text=True) as running:
+    with started_run(words, {"WINDOW": 7}) as running:
         until("there is a stream", lambda: any(path.stat().st_size > 10000
                                                for path in kept.glob("round-1.stream-*")))
         running.terminate()
@@ -568,8 +560,7 @@ def test_killed_with_several_filters(whom: str, tmp_path: Path) -> None:
     the proof, or the solver's, there is no answer."""
     mark, formula, kept = marked(tmp_path), given("random 170 4", tmp_path), tmp_path / "kept"
     words = ["-v", *by_filters(3, slow(tmp_path, 3)), "--proofs", kept, formula]
-    with started(command_of(words, {"WINDOW": 7}), env=in_environment({"WINDOW": 7}),
-                 stdout=subprocess.PIPE, text=True) as running:
+    with started_run(words, {"WINDOW": 7}) as running:
         until("there is a stream", lambda: any(path.stat().st_size > 100000
                                                for path in kept.glob("round-1.stream-*")))
         os.kill(children_of(running.pid)[whom], signal.SIGKILL)

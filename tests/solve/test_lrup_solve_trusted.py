@@ -9,13 +9,10 @@ import functools
 import multiprocessing
 import os
 import re
-import resource
 import shlex
 import shutil
-import signal
 import subprocess
 import tempfile
-import time
 from concurrent.futures import Future, ProcessPoolExecutor
 from pathlib import Path
 from typing import IO, Any, Callable, Dict, Iterator, List, Optional, Sequence, Tuple
@@ -26,6 +23,7 @@ from harness import (BUILDS, FLAGS, MODEL, PROGRAM, ROOT, Ran, alone, compiled, 
                      started, text_of, written)
 from hostile import SATISFIABLE, is_model, program
 from hostile_programs import COMMON
+from limits import limited
 from solving import FRONTS_FLAGS, Answer, in_place_of_lrupd, with_model
 
 pytestmark = pytest.mark.usefixtures("lrup_solve")
@@ -365,7 +363,6 @@ def test_no_wrong_answer_of_the_whole_front(name: str, tmp_path: Path) -> None:
 
 AT_ONCE = 12 * (os.cpu_count() or 1)    # attacks, which mostly wait
 PROCESSES, MEMORY = 100, 2 << 30        # of an attack: without some line a front may fork forever
-GROUPS = [Path("/sys/fs/cgroup"), Path("/sys/fs/cgroup/pids")]      # of version 2, and 1
 EVERY_ATTACK = {**ATTACKS, **OTHER_ATTACKS}
 WRONG = "a wrong answer"
 
@@ -408,63 +405,6 @@ def statements() -> List[range]:
     return found
 
 
-@contextlib.contextmanager
-def few_processes(work: Path) -> Iterator[Callable[[], None]]:
-    """Gives a function that limits how many processes its caller and their children can have: they
-    are in a control group or, if there is none, belong to a user of their own."""
-    for place in GROUPS:
-        group = place / f"lrup-{os.getpid()}"
-        try:
-            group.mkdir()
-            with open(group / "pids.max", "r+") as most:
-                most.write(str(PROCESSES))
-        except OSError:
-            with contextlib.suppress(OSError):
-                group.rmdir()
-            continue
-
-        def join() -> None:
-            (group / "cgroup.procs").write_text(str(os.getpid()))
-
-        try:
-            yield join
-        finally:
-            end_group(group)
-        return
-    if os.getuid() != 0:
-        pytest.skip("no control group, and no user of its own, limits processes")
-    user = 100000 + os.getpid()
-    os.chown(work, user, user)
-
-    def become() -> None:
-        resource.setrlimit(resource.RLIMIT_NPROC, (PROCESSES, PROCESSES))
-        os.setgid(user)
-        os.setuid(user)
-
-    try:
-        yield become
-    finally:
-        if os.fork() == 0:
-            os.setuid(user)
-            os.kill(-1, signal.SIGKILL)
-            os._exit(0)
-        os.wait()
-
-
-def end_group(group: Path) -> None:
-    (group / "pids.max").write_text("0")
-    end = time.monotonic() + 20
-    while True:
-        left = (group / "cgroup.procs").read_text().split()
-        for pid in left:
-            with contextlib.suppress(ProcessLookupError):
-                os.kill(int(pid), signal.SIGKILL)
-        with contextlib.suppress(OSError):
-            return group.rmdir()
-        assert time.monotonic() < end, f"processes are left: {left}"
-        time.sleep(0.05)
-
-
 def tried(attack: Attack, front: Path, work: Path) -> str:
     """If the front can't run, or doesn't end, there is no wrong answer."""
     (work / "bin").mkdir()
@@ -482,13 +422,11 @@ def attacked(attack: Attack, front: Path) -> str:
     with tempfile.TemporaryDirectory() as folder:
         work = Path(folder)
         found = written("it hasn't ended", work, "found")
-        with few_processes(work) as limit:
-            found.chmod(0o666)      # the attack may be another user's
+        with limited(work, PROCESSES, MEMORY) as group:
             child = os.fork()
             if child == 0:
                 try:
-                    limit()
-                    resource.setrlimit(resource.RLIMIT_AS, (MEMORY, MEMORY))
+                    group.join()
                     found.write_text(tried(attack, front, work))
                 finally:
                     os._exit(0)

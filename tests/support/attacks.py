@@ -14,7 +14,7 @@ from pathlib import Path
 from typing import Any, Callable, Dict, List, NamedTuple, Optional, Sequence, Set, Tuple
 
 from harness import PROGRAM, ROOT, written
-from hostile import FOUND, PROOF, PROVED, UNDER, program
+from hostile import ANY_SIGNAL, FOUND, PROOF, PROVED, UNDER, program
 from hostile_programs import COMMON, PROGRAMS, PROVING, SATISFYING, programs
 from records import CHANGES, with_digests
 from solving import SOLVE
@@ -74,11 +74,6 @@ CALLS = """openat read write pread64 close dup2 fcntl memfd_create pipe2 poll cl
 # Without these, processes may stay.
 CONTROL = """kill prctl setpgid wait4 waitid rt_sigaction rt_sigprocmask rt_sigtimedwait clone3
     vfork setsid""".split()
-DEADLY = (signal.SIGHUP, signal.SIGINT, signal.SIGQUIT, signal.SIGABRT, signal.SIGFPE,
-          signal.SIGUSR1, signal.SIGALRM, signal.SIGTERM, signal.SIGPIPE, signal.SIGSEGV,
-          signal.SIGXCPU, signal.SIGKILL)
-STOPS = (signal.SIGSTOP, signal.SIGTSTP, signal.SIGTTOU)
-SIGNALS = (*DEADLY, *STOPS, signal.SIGCHLD, signal.SIGCONT)
 # Of hostile programs: all processes of the run, and all their files in memory.
 HELPERS = COMMON + """
 import mmap, random
@@ -530,7 +525,7 @@ class Attack:
         data = (line + "\n") * self.numbers.choice((1, 2, 100))
         name = self.choice("lrupd", "lrup-model", "lrup-solve", "engines", "cleaner",
                            "supervisor")
-        number = int(self.numbers.choice(SIGNALS))
+        number = int(self.numbers.choice(ANY_SIGNAL))
         limit = self.choice("NOFILE", "AS", "FSIZE", "DATA", "NPROC", "CPU", "STACK", "MEMLOCK")
         step = self.numbers.choice((
             f"stream(1, {proof!r}); check(); hears('lrupd')",

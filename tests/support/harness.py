@@ -38,9 +38,7 @@ OUT = ROOT / "out"
 BIN, BUILDS = OUT / "bin", OUT / "tests"
 SOLVER, FILTER = BIN / "example-solver", BIN / "lrup-exact"
 TRIM, EXPLAIN = BIN / "lrup-trim", BIN / "lrup-explain"
-SANITIZED = BUILDS / "lrup-exact-sanitized"
-SANITIZED_TRIM = BUILDS / "lrup-trim-sanitized"
-SANITIZED_EXPLAIN = BUILDS / "lrup-explain-sanitized"
+VERSION = (ROOT / "VERSION").read_text().strip()
 USUAL_FLAGS = "-O2"
 # The options of conftest.py, and lrup-model, which is beside PROGRAM. COUNT is the number of random
 # rows; each file has its own default.
@@ -51,6 +49,11 @@ BEGUN = time.monotonic()
 RT: Optional[str] = None
 LIMIT = 300  # seconds after which a run counts as hanging, even on a slow and busy machine
 FOUR = "p cnf 2 4\n1 2 0\n-1 2 0\n1 -2 0\n-1 -2 0\n"
+# Formulas and streams among the examples.
+RECORDED = [("four-clause.cnf", ["four-clause.lrup"]), ("pigeonhole.cnf", ["pigeonhole.lrup"]),
+            ("bmc.cnf", ["bmc.lrup"]), ("pigeonhole.cnf", ["pigeonhole-two.1", "pigeonhole-two.2"]),
+            ("bmc.cnf", [f"bmc-four.{number}" for number in range(1, 5)]),
+            ("two-groups.cnf", [f"two-groups.{number}" for number in range(1, 5)])]
 # What lrup-explain prints if no line is bad; without a folder, it also asks about sizes.
 NONE_BAD = "no line is bad\n  if lrupd found one: missing and retired may depend on time"
 # The first bytes of files that these programs unpack.
@@ -105,6 +108,12 @@ def run(words: Words, given: Union[str, bytes, None] = None, limit: float = LIMI
     how = {"stdout": subprocess.PIPE, "stderr": subprocess.PIPE, **how}
     done = subprocess.run(built(words), timeout=limit, **how)
     return Ran(text_of(done.stdout), text_of(done.stderr), done.returncode)
+
+
+def output_of(done: Ran) -> str:
+    """What the program printed. It had nothing to say on standard error, and ended with 0."""
+    assert (done.err, done.status) == ("", 0)
+    return done.out
 
 
 def in_shell(command: str, *words: object, **how: Any) -> Ran:
@@ -175,16 +184,27 @@ def example(name: str) -> Path:
 
 def written(text: Union[str, bytes], folder: Path, name: str = "formula.cnf") -> Path:
     path = folder / name
-    path.parent.mkdir(exist_ok=True)
+    path.parent.mkdir(parents=True, exist_ok=True)
     path.write_bytes(text.encode() if isinstance(text, str) else text)
+    return path
+
+
+def write_all(files: Mapping[str, Union[str, bytes]], folder: Path) -> None:
+    for name, text in files.items():
+        written(text, folder, name)
+
+
+def executable(text: str, folder: Path, name: str) -> Path:
+    """A program with this text, which is in shell unless it says otherwise."""
+    path = written(text if text.startswith("#!") else f"#!/bin/sh\n{text}\n", folder, name)
+    path.chmod(0o755)
     return path
 
 
 def pack(path: Path, ending: str) -> Path:
     """Puts the packed file, whose name has this ending, in the place of the plain one."""
     needs(PACKERS[ending])
-    done = run([PACKERS[ending], "-q", *["--rm"] * (ending == "zst"), path])
-    assert done.status == 0, done.err
+    output_of(run([PACKERS[ending], "-q", *["--rm"] * (ending == "zst"), path]))
     return path.with_name(f"{path.name}.{ending}")
 
 
@@ -259,9 +279,7 @@ def feed(path: Path, pieces: Pieces) -> threading.Thread:
 
 @functools.lru_cache(maxsize=None)
 def text_generated(words: str) -> str:
-    done = run([sys.executable, GENERATOR, *words.split()])
-    assert done.status == 0, done.err
-    return done.out
+    return output_of(run([sys.executable, GENERATOR, *words.split()]))
 
 
 def generated(words: str, folder: Path, name: str = "formula.cnf") -> Path:
@@ -370,11 +388,6 @@ def for_tests(program: Path, sources: Iterable[Path], *flags: str,
     return program
 
 
-@functools.lru_cache(maxsize=None)
-def sanitized_filter() -> Path:
-    return for_tests(SANITIZED, sources_of("lrup-exact"))
-
-
 def sources_of(tool: str) -> List[Path]:
     """The tool's own sources, the library's and the filter's. lines.c, which reads records, needs
     libmd, so lrup-exact doesn't have it."""
@@ -383,13 +396,9 @@ def sources_of(tool: str) -> List[Path]:
 
 
 @functools.lru_cache(maxsize=None)
-def sanitized_trim() -> Path:
-    return for_tests(SANITIZED_TRIM, sources_of("lrup-trim"), libraries=["-lmd"])
-
-
-@functools.lru_cache(maxsize=None)
-def sanitized_explain() -> Path:
-    return for_tests(SANITIZED_EXPLAIN, sources_of("lrup-explain"), libraries=["-lmd"])
+def sanitized(tool: Path) -> Path:
+    return for_tests(BUILDS / f"{tool.name}-sanitized", sources_of(tool.name),
+                     libraries=["-lmd"] * (tool != FILTER))
 
 
 # The answers expected of the checker.
@@ -487,6 +496,25 @@ def named(table: Iterable[Sequence[Any]]) -> List[Any]:
 def each_of(table: Iterable[Tuple[str, Wanted]]) -> pytest.MarkDecorator:
     """A test of each run in this table, as the argument `wanted`."""
     return pytest.mark.parametrize("wanted", named(table))
+
+
+Runs = Callable[[], Iterable[Tuple[str, Wanted]]]
+
+
+def runs(table: Runs) -> Callable[..., None]:
+    """Makes a test of a function that yields named runs: each has the expected answer."""
+    @each_of(table())
+    def test(program: str, wanted: Wanted, tmp_path: Path) -> None:
+        answers(program, wanted, tmp_path)
+    return test
+
+
+def runs_in_both_ways(table: Runs) -> Callable[..., None]:
+    """The same, with threads and with --serial."""
+    @each_of(table())
+    def test(program: str, way: List[str], wanted: Wanted, tmp_path: Path) -> None:
+        answers(program, wanted.under(way), tmp_path)
+    return test
 
 
 def need_much_memory() -> None:

@@ -3,13 +3,13 @@
 A program is Python: a common beginning, and a body."""
 import gzip
 import os
-import stat
+import signal
 import subprocess
 import sys
 from pathlib import Path
 from typing import Optional, Sequence
 
-from harness import PROGRAM, run, written
+from harness import PROGRAM, executable, run, written
 from proof_forms import read_formula
 from solving import SOLVE, Answer, end_all, marked, none_left
 
@@ -20,6 +20,11 @@ STATUSES = {UNKNOWN: 0, FOUND: 10, PROVED: 20, UNDER: 20}
 SATISFIABLE = "p cnf 3 4\nc a comment\n1 2 0\n-1\n2 0 1 -3 0\nc 3 0\n3 -2 1 0\n"
 LONG = 60       # seconds within which a run has to end, also on a busy machine
 PROOF = "5 2 0 1 2 0\n6 0 5 3 4 0\n"                         # refutes FOUR
+DEADLY = (signal.SIGHUP, signal.SIGINT, signal.SIGQUIT, signal.SIGABRT, signal.SIGFPE,
+          signal.SIGUSR1, signal.SIGALRM, signal.SIGTERM, signal.SIGPIPE, signal.SIGSEGV,
+          signal.SIGXCPU, signal.SIGKILL)
+STOPS = (signal.SIGSTOP, signal.SIGTSTP, signal.SIGTTOU)
+ANY_SIGNAL = (*DEADLY, *STOPS, signal.SIGCHLD, signal.SIGCONT)
 
 # Finds the id of a checker that is the front's child, and starts an orphan that gets the same id
 # and ends with a status. If the program may choose ids, that takes a moment; otherwise it forks for
@@ -127,9 +132,7 @@ def everywhere(data):
 
 
 def program(body: str, work: Path) -> Path:
-    path = written(BEGINS + body + "\n", work, "engines")
-    path.chmod(path.stat().st_mode | stat.S_IXUSR)
-    return path
+    return executable(f"{BEGINS}{body}\n", work, "engines")
 
 
 def run_with(body: str, words: Sequence[object], text: str, work: Path, lrupd: object = PROGRAM,

@@ -10,7 +10,6 @@ from typing import Callable, Iterator, List, NamedTuple
 
 import pytest
 
-PROCESSES, MEMORY = 300, 4 << 30
 GROUPS = Path("/sys/fs/cgroup")
 numbers = itertools.count()
 
@@ -22,22 +21,23 @@ class Limited(NamedTuple):
     processes: Callable[[], List[int]]
 
 
-def new_groups() -> List[Path]:
+def new_groups(processes: int, memory: int) -> List[Path]:
     """Control groups of version 2 or 1 that limit processes and, if possible, memory; none if this
     process may make none."""
     found: List[Path] = []
     name = f"lrup-{os.getpid()}-{next(numbers)}"
-    for place, limit, most in ((GROUPS, "pids.max", PROCESSES), (GROUPS, "memory.max", MEMORY),
-                               (GROUPS / "pids", "pids.max", PROCESSES),
-                               (GROUPS / "memory", "memory.limit_in_bytes", MEMORY)):
+    for place, limit, most in ((GROUPS, "pids.max", processes), (GROUPS, "memory.max", memory),
+                               (GROUPS / "pids", "pids.max", processes),
+                               (GROUPS / "memory", "memory.limit_in_bytes", memory)):
         group = place / name
         try:
             group.mkdir(exist_ok=True)
             with open(group / limit, "r+") as file:
                 file.write(str(most))
         except OSError:
-            with contextlib.suppress(OSError):
-                group.rmdir()
+            if group not in found:
+                with contextlib.suppress(OSError):
+                    group.rmdir()
             continue
         if group not in found:
             found.append(group)
@@ -51,6 +51,8 @@ def members(group: Path) -> List[int]:
 def end_groups(groups: List[Path]) -> None:
     end = time.monotonic() + 20
     for group in groups:
+        with contextlib.suppress(OSError):      # it may limit only memory
+            (group / "pids.max").write_text("0")
         while True:
             for pid in members(group):
                 with contextlib.suppress(ProcessLookupError):
@@ -73,13 +75,13 @@ def processes_of_user(user: int) -> List[int]:
 
 
 @contextlib.contextmanager
-def limited(work: Path) -> Iterator[Limited]:
+def limited(work: Path, processes: int = 300, memory: int = 4 << 30) -> Iterator[Limited]:
     """Limits processes by a control group or, if there is none, by a user of their own, who gets
     this folder. At the end all are killed."""
-    groups = new_groups()
+    groups = new_groups(processes, memory)
     if groups:
         def join() -> None:
-            resource.setrlimit(resource.RLIMIT_AS, (MEMORY, MEMORY))
+            resource.setrlimit(resource.RLIMIT_AS, (memory, memory))
             for group in groups:
                 (group / "cgroup.procs").write_text(str(os.getpid()))
 
@@ -95,8 +97,8 @@ def limited(work: Path) -> Iterator[Limited]:
         os.chown(path, user, user, follow_symlinks=False)
 
     def become() -> None:
-        resource.setrlimit(resource.RLIMIT_AS, (MEMORY, MEMORY))
-        resource.setrlimit(resource.RLIMIT_NPROC, (PROCESSES, PROCESSES))
+        resource.setrlimit(resource.RLIMIT_AS, (memory, memory))
+        resource.setrlimit(resource.RLIMIT_NPROC, (processes, processes))
         os.setgid(user)
         os.setuid(user)
 

@@ -132,11 +132,6 @@ class Machine:
         self.mark, self.stump = folder / "mark", folder / "stump"
         self.ends: Dict[Tuple[str, int, int, str], Answer] = {}
 
-    def lay(self, given: Input) -> None:
-        """Writes the input's files."""
-        for name, text in given.files.items():
-            written(text, self.folder, name)
-
     def run(self, words: Sequence[str], refuse: str = "", out: Optional[str] = None,
             limit: float = HANGS) -> Tuple[Answer, bool, float]:
         """The answer, whether a call was refused, and how many seconds the run took. Lines of

@@ -9,14 +9,15 @@ import re
 import shlex
 import shutil
 import signal
-import stat
 import subprocess
 import time
 from pathlib import Path
-from typing import Any, Callable, Dict, List, Mapping, Optional, Sequence, Tuple
+from typing import (Any, Callable, Dict, Iterator, List, Mapping, Optional, Sequence, Tuple,
+                    TypeVar)
 
-from harness import (BUILDS, FLAGS, MODEL, OUT, PROGRAM, ROOT, USUAL_FLAGS, VERDICTS, Ran, alone,
-                     dimacs, is_newer, lacking, random_clauses, run, until, written)
+from harness import (BUILDS, FLAGS, LIMIT, MODEL, OUT, PROGRAM, ROOT, USUAL_FLAGS, VERDICTS, Ran,
+                     alone, dimacs, executable, is_newer, lacking, random_clauses, run, started,
+                     until)
 from proof_forms import read_formula
 from refused import refusing
 
@@ -41,6 +42,7 @@ class Answer:
     """A run's outputs and status."""
 
     def __init__(self, done: Ran) -> None:
+        self.ran = done
         self.out, self.said, self.status = done
         lines = self.out.splitlines()
         self.answers = [line for line in lines if line.startswith("s ")]
@@ -79,6 +81,21 @@ def in_environment(tested: Optional[Mapping[str, object]] = None,
 def solve(words: Sequence[object], tested: Optional[Mapping[str, object]] = None,
           env_more: Optional[Mapping[str, str]] = None, **how: Any) -> Answer:
     return Answer(run(command(words, tested), env=in_environment(tested, env_more), **how))
+
+
+@contextlib.contextmanager
+def started_run(words: Sequence[object], tested: Optional[Mapping[str, object]] = None,
+                env_more: Optional[Mapping[str, str]] = None,
+                **how: Any) -> Iterator["subprocess.Popen[str]"]:
+    """A run that has begun, with pipes for its outputs."""
+    how = {"stdout": subprocess.PIPE, "stderr": subprocess.PIPE, **how}
+    with started(command(words, tested), env=in_environment(tested, env_more), text=True,
+                 **how) as running:
+        yield running
+
+
+def end_of(running: "subprocess.Popen[str]", limit: float = LIMIT) -> Answer:
+    return Answer(Ran(*running.communicate(timeout=limit), running.returncode))
 
 
 def check(words: Sequence[object], tested: Optional[Mapping[str, object]] = None,
@@ -159,16 +176,12 @@ def rests_on(rule: str, found: str, most: int, formula: Callable[[int], Path],
 
 
 def in_place_of_lrupd(body: str, work: Path) -> Path:
-    path = written(f"#!/bin/sh\n{body}\n", work, "lrupd")
-    path.chmod(path.stat().st_mode | stat.S_IXUSR)
-    return path
+    return executable(body, work, "lrupd")
 
 
 def with_model(body: str, front: Path, work: Path) -> Path:
     """A copy of the front, with this program beside it in place of lrup-model."""
-    place = written(f"#!/bin/sh\n{body}\n", work / "beside", "lrup-model")
-    place.chmod(place.stat().st_mode | stat.S_IXUSR)
-    return Path(shutil.copy(front, place.parent))
+    return Path(shutil.copy(front, executable(body, work / "beside", "lrup-model").parent))
 
 
 def before_lrupd(what: str, work: Path) -> Path:
@@ -182,10 +195,8 @@ def engines_refusing(refused: str, work: Path) -> Tuple[Path, Path]:
     """lrup-engines, built for tests, in which a call is refused or late, as refuse.c describes it;
     each process counts its own calls. Also the file that exists from then on."""
     mark = work / "refused"
-    engines = written(f"#!/bin/sh\nexport LD_PRELOAD={refusing()} REFUSE={refused} MARK={mark}\n"
-                      f"exec {TESTED.with_name('lrup-engines')} \"$@\"\n", work, "engines")
-    engines.chmod(0o755)
-    return engines, mark
+    return executable(f"export LD_PRELOAD={refusing()} REFUSE={refused} MARK={mark}\n"
+                      f"exec {TESTED.with_name('lrup-engines')} \"$@\"", work, "engines"), mark
 
 
 # Processes.
@@ -222,6 +233,12 @@ def processes_of_run(pid: int) -> Dict[str, int]:
         if title == "lrupd" and "--rounds" not in words:
             found[READING] = child
     return found
+
+
+def until_there(name: str, running: "subprocess.Popen[Any]") -> None:
+    """Waits until the run has this process, or has ended."""
+    until(f"{name} is there",
+          lambda: name in processes_of_run(running.pid) or running.poll() is not None)
 
 
 def end_group(process: "subprocess.Popen[Any]") -> None:
@@ -304,6 +321,44 @@ def kill_children(children: Mapping[str, int], names: Sequence[str],
         if not is_alive(pid):
             raise ProcessLookupError(f"{name} has ended")
         os.kill(pid, number)
+
+
+Begun = TypeVar("Begun", bound="Run")
+
+
+class Run:
+    """A run with -v and this temporary folder. It has its own process group, which is killed when
+    the block is left."""
+
+    def __init__(self, words: Sequence[object], tested: Mapping[str, object], folder: Path,
+                 more: Mapping[str, str] = {}, **how: Any) -> None:
+        self.folder = folder
+        self.process = subprocess.Popen(
+            command(["-v", *words], tested), text=True, stdout=subprocess.PIPE,
+            stderr=subprocess.PIPE, start_new_session=True,
+            env=in_environment(tested, {"TMPDIR": str(folder), **more}), **how)
+        self.children: Dict[str, int] = {}
+
+    def get_ready(self) -> None:
+        """Waits until the run is as far as the test needs it, or has ended."""
+
+    def __enter__(self: Begun) -> Begun:
+        try:
+            self.get_ready()
+        except AssertionError:
+            self.__exit__()
+            raise
+        return self
+
+    def __exit__(self, *_: object) -> None:
+        end_group(self.process)
+
+    def end(self, limit: float = LIMIT) -> Answer:
+        """The run's output; none of its children is left, and no file."""
+        answer = end_of(self.process, limit)
+        until("its children end", lambda: not any(map(is_alive, self.children.values())))
+        until("its files are removed", lambda: not os.listdir(self.folder))
+        return answer
 
 
 # The builds.

@@ -55,8 +55,7 @@ void filter_open(Filter *filter, bool frat) {
     literals->length = 0;
     filter->originals = formula->clauses;
     if (frat) clauses_keep_sets(&filter->clauses);
-    formula->starts.items = grow(formula->starts.items, 0);
-    formula->literals.items = grow(formula->literals.items, 0);
+    formula_free(formula);
 }
 
 // Names delete clauses without unlinking them from the sets, so that only FRAT begins with sets.
@@ -76,9 +75,8 @@ static bool mark_literals(Filter *filter, const int64_t *numbers, size_t length,
     Literals *literals = &filter->literals;
     *tautology = false;
     for (size_t k = 0; k < length; k++) {
-        int64_t number = numbers[k];
-        if (number > variables || number < -variables) return false;
-        Literal literal = number > 0 ? 2 * ((Literal)number - 1) : 2 * (-(Literal)number - 1) + 1;
+        if (numbers[k] > variables || numbers[k] < -variables) return false;
+        Literal literal = literal_of(numbers[k]);
         if (marks[literal] != OPEN) continue;
         marks[literal] = TOUCHED;
         *tautology |= marks[complement_of(literal)] != OPEN;
@@ -146,18 +144,14 @@ uint64_t filter_next_identity(const Filter *filter) {
 
 // Windows.
 
-uint64_t filter_identity(const Filter *filter, uint64_t number, uint64_t own_addition) {
-    uint64_t place = IDENTITIES_OF_AN_ADDITION * own_addition + IDENTITIES_OF_AN_ADDITION - 1,
+// The identity of this step's addition if that filter derives it.
+static uint64_t identity_by(const Filter *filter, uint64_t number) {
+    uint64_t additions = windows_own(&filter->windows, number) + 1,
+             place = IDENTITIES_OF_AN_ADDITION * additions - 1,
              stream = filter->stream - filter->windows.number + number,
              identity = filter->formula.clauses + stream + place * filter->streams;
     if (identity > LAST_IDENTITY) stop("an identity of more than %d digits", DIGITS);
     return identity;
-}
-
-// The identity of this step's addition.
-static uint64_t identity_by_number(const Filter *filter) {
-    uint64_t number = filter->windows.owner;
-    return filter_identity(filter, number, windows_own(&filter->windows, number));
 }
 
 // The stream's next identity; or the identity that LRAT gives, if there is only one stream or other
@@ -171,7 +165,8 @@ static uint64_t new_identity(const Filter *filter, const Addition *addition) {
                  (long long)name);
         return (uint64_t)name;
     }
-    return filter_has_windows(filter) ? identity_by_number(filter) : filter_next_identity(filter);
+    return filter_has_windows(filter) ? identity_by(filter, filter->windows.owner)
+                                      : filter_next_identity(filter);
 }
 
 // How many lines that the proof doesn't have can get identities before this addition. LRAT streams
@@ -353,7 +348,7 @@ static void keep(Filter *filter, const Addition *addition, ClauseRef ref) {
 static void leave_to_another(Filter *filter, const Addition *addition) {
     if (addition->hinted == 0 && !filter->propagation.used)
         propagation_settle(&filter->propagation);
-    ClauseRef ref = clauses_add(&filter->clauses, identity_by_number(filter),
+    ClauseRef ref = clauses_add(&filter->clauses, identity_by(filter, filter->windows.owner),
                                 filter->literals.items, filter->literals.length, false);
     clause_at(&filter->clauses, ref)->flags -= RECENT;  // as clauses_add makes it
     keep(filter, addition, ref);
@@ -419,11 +414,8 @@ static bool same_literals(const Filter *filter, const Clause *clause) {
 static void write_import(uint64_t identity, const int64_t *literals, size_t length) {
     write_number(identity, ' ');
     write_bytes("i ", 2);
-    for (size_t k = 0; k < length; k++) {
-        if (literals[k] < 0) write_bytes("-", 1);
-        write_number((uint64_t)(literals[k] < 0 ? -literals[k] : literals[k]), ' ');
-    }
-    write_bytes("0\n", 2);
+    write_written(literals, length);
+    write_bytes("\n", 1);
 }
 
 // From now on, steps may use the clause.
@@ -466,13 +458,10 @@ void filter_meet(Filter *filter) {
     filter->literals = filter->met;
     filter->chain.length = 0;
     PUSH(&filter->chain, filter->meeting);
-    uint64_t own = filter_identity(filter, number, windows_own(&filter->windows, number));
-    clauses_delete(&filter->clauses, filter_write_line(filter, own));
+    clauses_delete(&filter->clauses, filter_write_line(filter, identity_by(filter, number)));
     filter->literals = of_step;
     for (uint64_t other = 0; other < filter->windows.filters; other++)
-        if (other != number)
-            write_import(filter_identity(filter, other, windows_own(&filter->windows, other)),
-                         numbers, filter->met.length);
+        if (other != number) write_import(identity_by(filter, other), numbers, filter->met.length);
     grow(numbers, 0);
 }
 
@@ -520,13 +509,7 @@ static void delete (Filter *filter, ClauseRef ref) {
 }
 
 void filter_write_deletion(Filter *filter) {
-    for (size_t start = 0; start < filter->chain.length; start += IDENTITIES_OF_A_LINE) {
-        size_t left = filter->chain.length - start;
-        write_number(filter->last ? filter->last : 1, ' ');
-        write_bytes("d ", 2);
-        write_numbers(filter->chain.items + start,
-                      left < IDENTITIES_OF_A_LINE ? left : IDENTITIES_OF_A_LINE);
-    }
+    write_deletion(filter->last ? filter->last : 1, &filter->chain);
     give_back(filter);
 }
 

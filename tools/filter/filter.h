@@ -125,8 +125,6 @@ _Noreturn void filter_stop_too_long(Filter *filter);
 
 // Windows. A filter's additions are numbered from 0 in each round.
 static inline bool filter_has_windows(const Filter *filter) { return filter->windows.filters > 1; }
-// the identity of that filter's addition
-uint64_t filter_identity(const Filter *filter, uint64_t number, uint64_t own_addition);
 // Adds a clause, and imports the same one of each other filter of the proof, which do this before
 // the same step. lrupd waits for them, so that a deletion comes after all lines that may need what
 // it deletes.

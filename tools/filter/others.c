@@ -28,8 +28,7 @@ static void keep(Other *other, const Words *words) {
         if (numbers[k] > other->variables || numbers[k] < -other->variables)
             stop("%s: a variable that the formula doesn't have: %lld, above the header's %d",
                  other->input.path, llabs(numbers[k]), other->variables);
-        PUSH(literals,
-             (Literal)(numbers[k] > 0 ? 2 * (numbers[k] - 1) : 2 * (-numbers[k] - 1) + 1));
+        PUSH(literals, literal_of(numbers[k]));
     }
     if (numbers[0] <= (int64_t)other->last || words->zeros == 0 || words->first_zero == 0)
         stop("%s: not a step of LRAT text, or an identity that isn't above the previous one",

@@ -10,4 +10,13 @@ void text_run(Filter *filter, Input *input, Form form);    // text.c: LRAT, DRUP
 void frat_run(Filter *filter, Input *input);               // frat.c
 void binary_run(Filter *filter, Input *input, Form form);  // binary.c
 
+static inline void proof_run(Filter *filter, Input *input, Form form) {
+    if (form == FRAT)
+        frat_run(filter, input);
+    else if (form >= BINARY_LRAT)
+        binary_run(filter, input, form);
+    else
+        text_run(filter, input, form);
+}
+
 #endif

@@ -155,13 +155,8 @@ void clauses_keep_set(Clauses *clauses, ClauseRef ref, uint64_t hash) {
 void clauses_keep_sets(Clauses *clauses) {
     clauses->sets_capacity = FIRST_SETS;
     clauses->sets = zeroed(clauses->sets_capacity, sizeof *clauses->sets);
-    for (size_t at = 1; at < clauses->used;) {
-        Clause *clause = clause_at(clauses, (ClauseRef)at);
-        size_t words = words_of(clause->length);
-        if (!(clause->flags & DEAD))
-            clauses_keep_set(clauses, (ClauseRef)at, clauses_hash(clauses, (ClauseRef)at));
-        at += words;
-    }
+    for (ClauseRef ref = 0; (ref = clauses_after(clauses, ref)) != 0;)
+        clauses_keep_set(clauses, ref, clauses_hash(clauses, ref));
 }
 
 void clauses_forget_sets(Clauses *clauses) {
@@ -206,11 +201,8 @@ ClauseRef clauses_after(const Clauses *clauses, ClauseRef ref) {
 
 // A clause that isn't needed again stops being recent after three calls.
 void clauses_age(Clauses *clauses) {
-    for (size_t at = 1; at < clauses->used;) {
-        Clause *clause = clause_at(clauses, (ClauseRef)at);
-        if (clause->flags & RECENT) clause->flags -= AGE;
-        at += words_of(clause->length);
-    }
+    for (ClauseRef ref = 0; (ref = clauses_after(clauses, ref)) != 0;)
+        if (clause_at(clauses, ref)->flags & RECENT) clause_at(clauses, ref)->flags -= AGE;
 }
 
 // After the call, `next` in the old row is each clause's new reference.

@@ -1,4 +1,6 @@
-// Unverified, like every program that uses it. Fatal errors.
+// Unverified, like every program that uses it. Fatal errors, and signals that end the program.
+#define _POSIX_C_SOURCE 200809L
+#include <signal.h>
 #include <stdarg.h>
 #include <stdio.h>
 #include <stdlib.h>
@@ -10,14 +12,36 @@ enum { LONGEST_TEXT = 1 << 14 };  // room for two paths
 static const char *position_unit;
 static uint64_t position_number, position_step;  // step 0: not in a step
 
+static const char *name = "error";
+static void (*before_error)(void), (*before_signal)(void);
+
 static void say(const char *cause) {
-    fprintf(stderr, "%s\n", cause);
+    if (before_error) before_error();
+    fprintf(stderr, "%s: %s\n", name, cause);
     exit(1);
 }
 
 static void (*told)(const char *cause) = say;
 
+void errors_name(const char *program, void (*before)(void)) {
+    name = program;
+    before_error = before;
+}
+
 void errors_handle(void (*handler)(const char *cause)) { told = handler; }
+
+static void end_by_signal(int number) {
+    before_signal();
+    signal(number, SIG_DFL);
+    raise(number);
+}
+
+void signals_handle(void (*before)(void)) {
+    static const int numbers[] = { SIGHUP, SIGINT, SIGTERM };
+    before_signal = before;
+    for (size_t k = 0; k < sizeof numbers / sizeof *numbers; k++)
+        if (signal(numbers[k], end_by_signal) == SIG_IGN) signal(numbers[k], SIG_IGN);
+}
 
 void position_set(const char *unit, uint64_t number) {
     position_unit = unit;

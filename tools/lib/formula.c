@@ -146,6 +146,11 @@ static void end_clause(Formula *formula) {
     PUSH(&formula->starts, formula->literals.length);
 }
 
+void formula_free(Formula *formula) {
+    formula->starts.items = grow(formula->starts.items, 0);
+    formula->literals.items = grow(formula->literals.items, 0);
+}
+
 void formula_clause(const Formula *formula, size_t clause, Literals *literals) {
     literals->length = 0;
     for (size_t k = formula->starts.items[clause]; k < formula->starts.items[clause + 1]; k++)
@@ -204,7 +209,7 @@ static void take(Reader *reader, Formula *formula, int literal, int wanted) {
     if (literal == 0)
         end_clause(formula);
     else
-        PUSH(&formula->literals, literal > 0 ? 2 * (literal - 1) : 2 * (-literal - 1) + 1);
+        PUSH(&formula->literals, literal_of(literal));
 }
 
 void formula_read(Formula *formula, const char *path) {

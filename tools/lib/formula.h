@@ -24,6 +24,7 @@ typedef struct {
 } Formula;
 
 void formula_read(Formula *formula, const char *path);
+void formula_free(Formula *formula);  // only the counts are left
 // sorted, each once
 void formula_clause(const Formula *formula, size_t clause, Literals *literals);
 // the program that unpacks a file that begins with these bytes, or NULL

@@ -9,7 +9,6 @@
 #include <string.h>
 #include <sys/mman.h>
 #include <sys/stat.h>
-#include <sys/wait.h>
 #include <unistd.h>
 
 #include <sha256.h>
@@ -63,22 +62,12 @@ static int file_without_name(void) {
     return file;
 }
 
-// Unpacks the file into a temporary one. If this fails, the unpacking program prints why.
-static int unpacked(int packed, const char *program, const char *path) {
-    int file = file_without_name(), status;
-    fflush(NULL);
-    pid_t child = fork();
-    if (child == 0) {
-        if (dup2(packed, 0) == 0 && dup2(file, 1) == 1)
-            execlp(program, program, "-dcq", (char *)NULL);
-        _exit(errno == ENOENT ? 127 : 126);
-    }
-    if (child < 0 || waitpid(child, &status, 0) != child)
-        stop("cannot start %s: %s", program, strerror(errno));
-    if (WIFEXITED(status) && WEXITSTATUS(status) == 127)
-        stop("no %s on the PATH for %s", program, path);
-    if (status != 0) stop("%s: %s can't unpack it", path, program);
-    close(packed);
+// Unpacks the file into a temporary one.
+static int unpacked(int packed, const char *path) {
+    int file = file_without_name();
+    Unpacking unpacking;
+    unpacking_start(&unpacking, path, packed, file);
+    unpacking_end(&unpacking, path);
     return file;
 }
 
@@ -105,10 +94,9 @@ void files_watch(const char *program, void (*removes)(void)) {
 // Maps the file over zeros, which then follow its bytes; so an empty file has memory, too.
 unsigned char *file_map(const char *path, size_t *length) {
     int file = file_open(path, length);
-    const char *program = packer_of(path);
-    if (program) {
+    if (packer_of(path)) {
         struct stat found;
-        file = unpacked(file, program, path);
+        file = unpacked(file, path);
         if (fstat(file, &found) != 0) stop("%s: %s", path, strerror(errno));
         *length = (size_t)found.st_size;
     }
@@ -267,7 +255,9 @@ void record_check(const char *folder, const char *formula) {
 // says, or, without that file, as the round before. In round 1 the sizes are read only if `row`
 // isn't NULL. Without a file of sizes the row stays as it is.
 uint32_t record_streams(const char *folder, size_t round, uint32_t before, Row *row) {
-    if (!is_there(record_file(folder, round, "stream-", 1))) return 0;
+    const char *first = record_file(folder, round, "stream-", 1);
+    if (round == 1 && !is_there(first)) stop("%s: No such file or directory", first);
+    if (!is_there(first)) return 0;
     uint32_t count = round == 1 ? 1 : before;
     while (round == 1 && count < STREAMS &&
            is_there(record_file(folder, round, "stream-", count + 1)))

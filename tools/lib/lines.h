@@ -40,7 +40,7 @@ const char *folder_of(const Texts *files);
 void record_check(const char *folder, const char *formula);
 // the file's path, valid until the next call; a stream may be compressed
 const char *record_file(const char *folder, size_t round, const char *kind, uint32_t number);
-// 0: no such round
+// 0: no such round; stops if that is round 1
 uint32_t record_streams(const char *folder, size_t round, uint32_t before, Row *row);
 
 #endif

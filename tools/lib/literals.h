@@ -17,6 +17,9 @@ typedef int Literal;
 
 static inline Literal complement_of(Literal literal) { return literal ^ 1; }
 static inline int variable_of(Literal literal) { return literal >> 1; }
+static inline Literal literal_of(int64_t written) {
+    return (Literal)(written > 0 ? 2 * (written - 1) : 2 * (-written - 1) + 1);
+}
 static inline int as_written(Literal literal) {
     return literal & 1 ? -(variable_of(literal) + 1) : variable_of(literal) + 1;
 }

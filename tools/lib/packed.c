@@ -35,16 +35,21 @@ static _Noreturn void unpack(const char *program, int packed, int out) {
     _exit(errno == ENOENT ? NOT_FOUND : 126);
 }
 
-int unpacking_open(Unpacking *unpacking, const char *path) {
-    int file = open(path, O_RDONLY | O_CLOEXEC), ends[2];
-    *unpacking = (Unpacking){ .program = packer_of(path) };
-    if (file < 0 || unpacking->program == NULL) return file;
-    if (pipe2(ends, O_CLOEXEC) != 0) fail_file(path, strerror(errno));
+void unpacking_start(Unpacking *unpacking, const char *path, int packed, int out) {
+    unpacking->program = packer_of(path);
     fflush(NULL);
     unpacking->child = fork();
-    if (unpacking->child == 0) unpack(unpacking->program, file, ends[1]);
+    if (unpacking->child == 0) unpack(unpacking->program, packed, out);
     if (unpacking->child < 0) fail_file(path, strerror(errno));
-    close(file);
+    close(packed);
+}
+
+int unpacking_open(Unpacking *unpacking, const char *path) {
+    int file = open(path, O_RDONLY | O_CLOEXEC), ends[2];
+    *unpacking = (Unpacking){ 0 };
+    if (file < 0 || packer_of(path) == NULL) return file;
+    if (pipe2(ends, O_CLOEXEC) != 0) fail_file(path, strerror(errno));
+    unpacking_start(unpacking, path, file, ends[1]);
     close(ends[1]);
     return ends[0];
 }

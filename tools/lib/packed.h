@@ -27,6 +27,8 @@ typedef struct {
 
 const char *packer_of(const char *path);  // the program for a file with this name; or NULL
 int unpacking_open(Unpacking *unpacking, const char *path);  // -1: see errno
+// for a file that is open already; closes it
+void unpacking_start(Unpacking *unpacking, const char *path, int packed, int out);
 // After the last byte: fails with a message if the program couldn't unpack everything.
 void unpacking_end(Unpacking *unpacking, const char *path);
 void unpacking_leave(Unpacking *unpacking);  // after its file was closed, earlier than that

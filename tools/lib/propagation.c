@@ -221,7 +221,8 @@ bool propagation_may_need(const Propagation *propagation, ClauseRef ref) {
     return unit < 0 || clause->length == 1 || !propagation->has_unit[unit];
 }
 
-void propagation_age(Propagation *propagation) {
+// Ages the clauses, but only once in many calls, so that this takes little time.
+static void age(Propagation *propagation) {
     if (++propagation->chains < LEAST_TURN + propagation->clauses->used / WORDS_A_CHAIN) return;
     propagation->chains = 0;
     clauses_age(propagation->clauses);
@@ -384,7 +385,7 @@ void propagation_backtrack(Propagation *propagation) {
 // A clause that is false if these literals are false, or 0. Call after `propagation_settle`.
 ClauseRef propagation_conflict(Propagation *propagation, const Literals *literals) {
     assert(propagation->waiting.length == 0 && propagation->trail.length == propagation->root);
-    propagation_age(propagation);
+    age(propagation);
     ClauseRef conflict = first_reason(propagation, literals);
     if (conflict == 0) conflict = propagation->conflict;
     if (conflict != 0) return conflict;

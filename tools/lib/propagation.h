@@ -48,9 +48,6 @@ void propagation_settle(Propagation *propagation);
 // leaves the assumptions on the trail
 ClauseRef propagation_conflict(Propagation *propagation, const Literals *literals);
 void propagation_backtrack(Propagation *propagation);
-// ages the clauses, but only once in many calls, so that this takes little time; call for each chain
-// that another filter looks for
-void propagation_age(Propagation *propagation);
 bool propagation_trace(Propagation *propagation, const Literals *literals, ClauseRef conflict,
                        Identities *chain);
 void propagation_trace_all(Propagation *propagation, const Literals *literals, ClauseRef conflict,

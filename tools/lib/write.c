@@ -1,11 +1,13 @@
 // Unverified, like the whole filter. Writes the stream, whole lines at a time.
 #include <errno.h>
 #include <poll.h>
+#include <stdlib.h>
 #include <string.h>
 #include <unistd.h>
 
 #include "checks.h"
 #include "errors.h"
+#include "line_limits.h"
 #include "lists.h"
 #include "write.h"
 
@@ -84,6 +86,22 @@ void write_literals(const Literal *literals, size_t length) {
     for (size_t k = 0; k < length; k++)
         put_number((uint64_t)variable_of(literals[k]) + 1, literals[k] & 1, ' ');
     write_bytes("0", 1);
+}
+
+void write_written(const int64_t *literals, size_t length) {
+    for (size_t k = 0; k < length; k++)
+        put_number((uint64_t)llabs(literals[k]), literals[k] < 0, ' ');
+    write_bytes("0", 1);
+}
+
+void write_deletion(uint64_t lead, const Identities *deleted) {
+    for (size_t k = 0; k < deleted->length; k += IDENTITIES_OF_A_LINE) {
+        size_t left = deleted->length - k;
+        write_number(lead, ' ');
+        write_bytes("d ", 2);
+        write_numbers(deleted->items + k,
+                      left < IDENTITIES_OF_A_LINE ? left : IDENTITIES_OF_A_LINE);
+    }
 }
 
 // `length` is at least 1.

@@ -8,6 +8,7 @@
 #include <sha256.h>
 
 const size_t DIGEST_DIGITS = SHA256_DIGEST_STRING_LENGTH - 1;
+const size_t BEFORE_NAME = DIGEST_DIGITS + 2;  // in a line of sha256sum
 
 // The digest of bytes that come in pieces.
 class Digest {

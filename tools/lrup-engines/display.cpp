@@ -42,6 +42,14 @@ std::string counted(uint64_t number, const char *what) {
     return grouped(number) + " " + what + (number == 1 ? "" : "s");
 }
 
+std::vector<std::string> lines_of(const std::string &text) {
+    std::vector<std::string> lines;
+    for (size_t begin = 0, end; (end = text.find('\n', begin)) != std::string::npos;
+         begin = end + 1)
+        lines.push_back(text.substr(begin, end - begin));
+    return lines;
+}
+
 std::string title(const std::string &path) { return path == "-" ? "standard input" : quoted(path); }
 
 // During the run.
@@ -257,11 +265,8 @@ void Display::tell_other_hints() const {
 
 void Display::tell_causes(const std::string &cause) const {
     if (!checker.last_line().empty() && !inputs.options.verbose) tell(checker.last_line());
-    const std::string &report = checker.report;
-    size_t begin = 0;
-    for (size_t end; (end = report.find('\n', begin)) != std::string::npos; begin = end + 1)
-        if (report.compare(begin, 2, "c ") == 0)
-            tell("lrupd: " + report.substr(begin + 2, end - begin - 2));
+    for (const std::string &line : lines_of(checker.report))
+        if (line.compare(0, 2, "c ") == 0) tell("lrupd: " + line.substr(2));
     tell(cause);
 }
 

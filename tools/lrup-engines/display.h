@@ -62,6 +62,7 @@ class Display {
 std::string format(const char *text, ...) __attribute__((format(printf, 1, 2)));
 std::string grouped(uint64_t number);                    // 1,234,567
 std::string counted(uint64_t number, const char *what);  // 1 clause, 2 clauses
+std::vector<std::string> lines_of(const std::string &text);
 std::string title(const std::string &path);
 void tell_model(const std::vector<signed char> &model);  // the front
 

@@ -479,13 +479,7 @@ static void read_proof(const Formula *formula) {
     open_others();
     filter_open(&filter, is_unknown || own->form == FRAT);
     filter.formula.clauses = own->clauses;
-    Form form = is_unknown ? form_found(formula) : own->form;
-    if (form == FRAT)
-        frat_run(&filter, &input);
-    else if (form >= BINARY_LRAT)
-        binary_run(&filter, &input, form);
-    else
-        text_run(&filter, &input, form);
+    proof_run(&filter, &input, is_unknown ? form_found(formula) : own->form);
 }
 
 // Adds the empty clause if a solver answered 20 without writing it.

@@ -126,7 +126,7 @@ void Inputs::check_digests() {
         close(file);
         if (!std::getline(lines, line))
             refuse(path + " doesn't have the SHA-256 of the " + name[k] + NOT_RESUMED);
-        bool is_its = line.compare(line[0] == '\\', DIGEST_DIGITS + 2, digest + "  ") == 0;
+        bool is_its = line.compare(line[0] == '\\', BEFORE_NAME, digest + "  ") == 0;
         if (!is_its && k == 0 && !options.names_formula)
             refuse("name the formula: lrup-solve --resume " + quoted(options.resumed) + " FORMULA");
         if (!is_its)
@@ -208,7 +208,7 @@ void Inputs::read_assumptions() {
             refuse_formula(name + ": the literal " + shown +
                            ", but the formula has the variables 1 to " +
                            std::to_string(formula.variables));
-        assumed.push_back(literal > 0 ? 2 * (literal - 1) : 2 * (-literal - 1) + 1);
+        assumed.push_back(literal_of(literal));
     }
     if (word != "0") refuse_formula(name + ": no line of literals that ends with 0");
     if (assumed.empty()) return;
@@ -243,7 +243,7 @@ bool Inputs::read_cube(const std::string &line, bool &has_cube) {
         if (!number_read(word.c_str(), &literal) || std::abs(literal) > formula.variables ||
             literal == 0)
             return false;
-        Literal one = literal > 0 ? 2 * (literal - 1) : 2 * (-literal - 1) + 1;
+        Literal one = literal_of(literal);
         is_open &= !found.count(complement_of(one)) &&
                    !std::binary_search(assumed.begin(), assumed.end(), complement_of(one));
         if (!std::binary_search(assumed.begin(), assumed.end(), one)) found.insert(one);

@@ -13,14 +13,6 @@
 
 namespace {
 
-std::vector<std::string> lines_of(const std::string &text) {
-    std::vector<std::string> lines;
-    for (size_t begin = 0, end; (end = text.find('\n', begin)) != std::string::npos;
-         begin = end + 1)
-        lines.push_back(text.substr(begin, end - begin));
-    return lines;
-}
-
 // Runs a tool; `said` gets what it prints. False if this run is ended meanwhile.
 bool run_tool(const std::vector<std::string> &words, Child &child, std::string &said,
               const Keeping::Wait &wait) {

@@ -25,12 +25,13 @@ void events_advance(EventCount *events) {
     if (write(events->file, &one, sizeof one) < 0) return;  // the eventfd is readable anyway
 }
 
-bool events_begin_wait(EventCount *events, uint64_t seen) {
+// False if something came after `seen`.
+static bool begin_wait(EventCount *events, uint64_t seen) {
     __atomic_store_n(&events->waits, 1, __ATOMIC_SEQ_CST);
     return events_so_far(events) == seen;
 }
 
-void events_end_wait(EventCount *events, bool is_readable) {
+static void end_wait(EventCount *events, bool is_readable) {
     uint64_t count;
     STORE(events->waits, 0);
     if (is_readable && read(events->file, &count, sizeof count) < 0) return;
@@ -38,9 +39,9 @@ void events_end_wait(EventCount *events, bool is_readable) {
 
 bool events_await(EventCount *events, uint64_t seen, int file) {
     pollfd list[] = { { events->file, POLLIN, 0 }, { file, POLLIN, 0 } };
-    bool waits = events_begin_wait(events, seen);
+    bool waits = begin_wait(events, seen);
     poll(list, 2, waits ? -1 : 0);
-    events_end_wait(events, list[0].revents != 0);
+    end_wait(events, list[0].revents != 0);
     return list[1].revents != 0;
 }
 
@@ -64,9 +65,9 @@ void Loop::wait(EventCount &events, std::vector<pollfd> &files, double time,
                 const std::vector<Child *> &children) {
     files.push_back({ events.file, POLLIN, 0 });
     files.push_back({ signals, POLLIN, 0 });
-    bool waits = events_begin_wait(&events, seen) && !polls_only;
+    bool waits = begin_wait(&events, seen) && !polls_only;
     poll(files.data(), files.size(), waits ? milliseconds_to(time) : 0);
-    events_end_wait(&events, files[files.size() - 2].revents != 0);
+    end_wait(&events, files[files.size() - 2].revents != 0);
     seen = events_so_far(&events);
     polls_only = false;
     if (files.back().revents != 0) take_signals(children);

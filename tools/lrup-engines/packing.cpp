@@ -15,7 +15,6 @@ namespace {
 
 const std::string PACKS = "zstd", ENDING = ".zst";
 const uint64_t LEAST = 1 << 20;  // bytes of a stream that is worth packing
-const size_t BEFORE_NAME = DIGEST_DIGITS + 2;
 
 // In a child. Becomes a program that reads one file and writes the other.
 [[noreturn]] void become(const std::string &program, const char *how, int file, int out) {

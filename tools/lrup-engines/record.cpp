@@ -468,7 +468,7 @@ std::string digests_of_record(const std::vector<std::string> &known) {
     std::set<std::string> left = listed;
     for (const std::string &line : known) {
         lines += line + "\n";
-        left.erase(line.substr(DIGEST_DIGITS + 2));
+        left.erase(line.substr(BEFORE_NAME));
     }
     for (const std::string &name : left) {
         if (name == LIST || name == "about" || name != without_ending(name)) continue;
@@ -539,8 +539,6 @@ std::string digest_line(const std::string &digest, const std::string &path) {
 // Rounds.
 
 namespace {
-
-const size_t BEFORE_NAME = DIGEST_DIGITS + 2;
 
 std::string checkpoint_name(uint64_t round) {
     return "checkpoint-" + std::to_string(round) + ".cnf";

@@ -250,7 +250,7 @@ std::string Rounds::feed_saved() {
 std::string Rounds::changed_file() {
     for (; compared < checker.digests.size(); compared++)
         if (ended.is_changed(checker.digests[compared]))
-            return teams.record + checker.digests[compared].substr(DIGEST_DIGITS + 2);
+            return teams.record + checker.digests[compared].substr(BEFORE_NAME);
     return "";
 }
 
@@ -269,7 +269,7 @@ std::string Rounds::end_record(const std::string &path) {
     const std::string cause = path + " was changed since it was saved",
                       sizes = name_of_round(checked) + ".sizes";
     if (checked > 1) {
-        while (named < digests.size() && digests[named].substr(DIGEST_DIGITS + 2) != sizes) named++;
+        while (named < digests.size() && digests[named].substr(BEFORE_NAME) != sizes) named++;
         digests.resize(named);
         saver.save(checked, inputs.options.record, checkpoint_path(), digests);
     }

@@ -207,9 +207,7 @@ _Noreturn void filter_process(const Filtering *filtering, const void *formula); 
 
 // loop.cpp: event counts
 uint64_t events_so_far(const EventCount *events);
-void events_advance(EventCount *events);                     // after the store
-bool events_begin_wait(EventCount *events, uint64_t seen);   // false if something came after `seen`
-void events_end_wait(EventCount *events, bool is_readable);  // whether its file is readable
+void events_advance(EventCount *events);  // after the store
 // waits until something comes, or the file (-1: none) can be read; true if the file can be read
 bool events_await(EventCount *events, uint64_t seen, int file);
 

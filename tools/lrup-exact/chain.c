@@ -99,20 +99,12 @@ static void remove_files(void) {
     is_awaited = 0;
 }
 
-// An lrupd that is opening the FIFO gets an empty stream; one that comes later finds no file.
-static void end_by_signal(int number) {
-    if (is_awaited) {
-        openat(held, name_in(stream), O_RDWR | O_NONBLOCK | O_NOFOLLOW);  // until this process ends
-        remove_files();
-    }
-    signal(number, SIG_DFL);
-    raise(number);
-}
-
-static void take_signals(void) {
-    static const int numbers[] = { SIGHUP, SIGINT, SIGTERM };
-    for (size_t k = 0; k < sizeof numbers / sizeof *numbers; k++)
-        if (signal(numbers[k], end_by_signal) == SIG_IGN) signal(numbers[k], SIG_IGN);
+// Before a signal ends the program. An lrupd that is opening the FIFO gets an empty stream; one that
+// comes later finds no file.
+static void leave_no_files(void) {
+    if (!is_awaited) return;
+    openat(held, name_in(stream), O_RDWR | O_NONBLOCK | O_NOFOLLOW);  // until this process ends
+    remove_files();
 }
 
 // Waits until lrupd opens the FIFO. That never happens if standard output is a pipe and its reader,
@@ -137,7 +129,7 @@ static void open_stream(void) {
     remove_files();
 }
 
-static void close_stream(void) {
+void chain_end(void) {
     write_flush();
     if (close(file) != 0) fail("cannot write the stream:", strerror(errno));
 }
@@ -171,7 +163,7 @@ static void next_round(uint64_t wanted) {
     uint64_t clauses = round_clauses(filter, &literals);
     rows_grow(&rows);
     size_round(clauses, literals, wanted, "the solver's clauses leave");
-    close_stream();
+    chain_end();
     open_stream();
     take_checkpoint();
 }
@@ -196,7 +188,7 @@ void chain_begin(Filter *one, uint64_t memory) {
     filter->hooks = &hooks;
     filter->keeps_clauses = true;
     write_to(to_stream);
-    take_signals();
+    signals_handle(leave_no_files);
     rows_open(&rows, memory, 0, 1);
     size_round(filter->formula.clauses, filter->formula.literals.length, 0, "the formula leaves");
     if (!write_whole(STDOUT_FILENO, stream, strlen(stream)) ||
@@ -206,5 +198,3 @@ void chain_begin(Filter *one, uint64_t memory) {
     }
     open_stream();
 }
-
-void chain_end(void) { close_stream(); }

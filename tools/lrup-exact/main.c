@@ -3,8 +3,6 @@
 // it, and is also the source of its --help.
 #include <errno.h>
 #include <signal.h>
-#include <stdio.h>
-#include <stdlib.h>
 #include <string.h>
 #include <unistd.h>
 
@@ -16,13 +14,6 @@
 #include "readers.h"
 #include "row.h"
 #include "write.h"
-
-// Flushes the stream first.
-static void end(const char *cause) {
-    write_flush();
-    fprintf(stderr, "lrup-exact: %s\n", cause);
-    exit(1);
-}
 
 // The command line.
 
@@ -120,18 +111,13 @@ static void run(Input *input, Form form) {
              "lrat|drat|frat|binary-lrat|binary-drat");
     }
     filter_open(&filter, form == FRAT);
-    if (form == FRAT)
-        frat_run(&filter, input);
-    else if (form == BINARY_LRAT || form == BINARY_DRAT)
-        binary_run(&filter, input, form);
-    else
-        text_run(&filter, input, form);
+    proof_run(&filter, input, form);
     write_flush();
 }
 
 int main(int count, char **words) {
     static Input input;
-    errors_handle(end);
+    errors_name("lrup-exact", write_flush);
     const Texts *files = arguments_read("lrup-exact", help, options, count, words);
     filter.stream = number_of(given.stream);
     filter.streams = number_of(given.streams);

@@ -91,10 +91,6 @@ typedef struct {
     Reading line;          // a copy, if it is bad
 } Replay;
 
-static inline Literal literal_of(int64_t written) {
-    return (Literal)(written > 0 ? 2 * (written - 1) : 2 * (-written - 1) + 1);
-}
-
 // judge.c
 Stream *owner_of(const Replay *replay, uint64_t identity);  // above the formula's
 Known *known_of(const Replay *replay, uint64_t identity);   // above the formula's, up to the last
@@ -104,6 +100,7 @@ bool is_dropped(const Stream *stream, uint64_t identity);
 // neither dropped nor deleted
 bool is_usable(const Replay *replay, const Stream *stream, uint64_t identity);
 bool is_foreign(const Replay *replay, const Stream *stream, uint64_t identity);  // another stream's
+bool is_own(const Replay *replay, const Stream *stream, uint64_t identity);      // this stream's
 bool is_awaited(const Replay *replay, uint64_t identity);  // its owner may still derive it
 uint64_t last_derived(const Replay *replay);               // of all streams, or the formula's last
 uint64_t next_identity(const Replay *replay, const Stream *stream);
@@ -112,11 +109,14 @@ Literal unit_of(const Replay *replay, ClauseRef ref);              // or CONFLIC
 Fault judge(Replay *replay, Stream *stream, const Reading *line);  // call forget_values after it
 // whether the hints of the bad addition are exact in the reverse order
 bool is_right_reversed(const Replay *replay, const Stream *stream);
+// how many literals of the trail come from the new clause, of which each is false at first
+size_t false_at_first(const Replay *replay);
 void forget_values(Replay *replay);
 
 // replay.c
 void replay_all(Replay *replay, const char *formula, const char *folder, const char *const *paths,
                 uint32_t count);
+Origin origin_of(const Replay *replay, uint64_t identity);  // up to the last
 Line current_line(const Stream *stream, bool *is_whole);
 // the number of the line that derives the clause, if it is the current line or a later one; or 0
 uint64_t line_deriving(const Stream *stream, uint64_t identity);
@@ -151,7 +151,6 @@ void tell(const Replay *replay, const Stream *stream);  // explains the fault of
 // explains a later fault in one line
 void tell_short(const Replay *replay, const Stream *stream);
 void tell_place(const Replay *replay, uint64_t identity);  // where the clause is from
-void tell_list(const int64_t *numbers, size_t count);
 void tell_literals(const Literal *literals, size_t count, const char *between);
 const char *fault_words(const Fault *fault);
 // the owner's bad line, or a line after that, may derive the clause

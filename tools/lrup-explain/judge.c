@@ -21,7 +21,7 @@ bool is_foreign(const Replay *replay, const Stream *stream, uint64_t identity) {
     return is_derived(replay, identity) && owner_of(replay, identity) != stream;
 }
 
-static bool is_own(const Replay *replay, const Stream *stream, uint64_t identity) {
+bool is_own(const Replay *replay, const Stream *stream, uint64_t identity) {
     return is_derived(replay, identity) && owner_of(replay, identity) == stream;
 }
 
@@ -212,13 +212,18 @@ static Fault take_deletion(Replay *replay, Stream *stream, const Reading *line) 
 }
 
 // The complements of the clause's literals come first on the trail, each once.
+size_t false_at_first(const Replay *replay) {
+    size_t count = 0;
+    while (count < replay->trail.length &&
+           replay->reasons[variable_of(replay->trail.items[count])] == 0)
+        count++;
+    return count;
+}
+
 static void add(Replay *replay, Stream *stream, const Reading *line) {
     static Literals literals;
-    size_t length = 0;
+    size_t length = false_at_first(replay);
     literals.length = 0;
-    while (length < replay->trail.length &&
-           replay->reasons[variable_of(replay->trail.items[length])] == 0)
-        length++;
     for (size_t k = 0; k < length; k++) PUSH(&literals, complement_of(replay->trail.items[k]));
     ClauseRef ref = clauses_add(&replay->store, line->identity, literals.items, length, false);
     *known_of(replay, line->identity) = (Known){ .clause = ref, .line = stream->lines + 1 };

@@ -2,17 +2,10 @@
 // or of a record of rounds, and says why a line is bad, and what would be right.
 // man/lrup-explain.1 describes it, and is also the source of its --help.
 #include <stdio.h>
-#include <stdlib.h>
 
 #include "explain.h"
 
-// Errors.
-
-static void end(const char *cause) {
-    fflush(stdout);
-    fprintf(stderr, "lrup-explain: %s\n", cause);
-    exit(1);
-}
+static void flush(void) { fflush(stdout); }
 
 // The command line.
 
@@ -43,7 +36,7 @@ static uint64_t number(const char *word, uint64_t usual, uint64_t most) {
 enum { USUAL_LINES = 65536, USUAL_ROOM = 1048576, MOST_TRIES = 1000000, BAD = 3 };
 
 int main(int count, char **words) {
-    errors_handle(end);
+    errors_name("lrup-explain", flush);
     files_watch("lrup-explain", NULL);
     const Texts *files = arguments_read("lrup-explain", help, options, count, words);
     replay.row = (Row){ number(given.lines, USUAL_LINES, MOST_WORDS),

@@ -133,8 +133,7 @@ static void take_formula(Replay *replay, const char *path) {
             clauses_add(&replay->store, k + 1, literals.items, literals.length, false);
         replay->literals += literals.length;
     }
-    formula.starts.items = grow(formula.starts.items, 0);
-    formula.literals.items = grow(formula.literals.items, 0);
+    formula_free(&formula);
 }
 
 static void open_streams(Replay *replay, const char *folder, const char *const *paths,
@@ -174,7 +173,7 @@ static void close_streams(Replay *replay) {
     grow(replay->streams, 0);
 }
 
-static Origin origin_of(const Replay *replay, uint64_t identity) {
+Origin origin_of(const Replay *replay, uint64_t identity) {
     if (identity <= replay->clauses)
         return replay->origins ? replay->origins[identity - 1] : (Origin){ .number = identity };
     return (Origin){ replay->round, owner_of(replay, identity)->number,
@@ -219,7 +218,6 @@ void replay_all(Replay *replay, const char *formula, const char *folder, const c
                 uint32_t count) {
     replay->round = 1;
     if (folder) count = record_streams(folder, 1, 0, &replay->row);
-    if (count == 0) stop("%s: No such file or directory", record_file(folder, 1, "stream-", 1));
     if (folder) record_check(folder, formula);
     take_formula(replay, formula);
     for (;;) {

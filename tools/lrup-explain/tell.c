@@ -31,18 +31,13 @@ static void tell_origin(Origin origin, uint32_t round) {
 void tell_place(const Replay *replay, uint64_t identity) {
     if (identity > replay->last) {
         printf("above the last identity, %llu", (Printed)replay->last);
-    } else if (identity <= replay->clauses) {
-        tell_origin(replay->origins ? replay->origins[identity - 1]
-                                    : (Origin){ .number = identity },
-                    replay->round);
-    } else {
-        Origin origin = { replay->round, owner_of(replay, identity)->number,
-                          known_of(replay, identity)->line };
-        if (origin.number)
-            tell_origin(origin, replay->round);
-        else
-            printf("stream %u, no such line so far", origin.stream);
+        return;
     }
+    Origin origin = origin_of(replay, identity);
+    if (origin.number)
+        tell_origin(origin, replay->round);
+    else
+        printf("stream %u, no such line so far", origin.stream);
 }
 
 static void tell_more(size_t count) {
@@ -55,21 +50,13 @@ void tell_literals(const Literal *literals, size_t count, const char *between) {
     tell_more(count);
 }
 
-void tell_list(const int64_t *numbers, size_t count) {
+static void tell_list(const int64_t *numbers, size_t count) {
     for (size_t k = 0; k < count && k < MOST_SHOWN; k++)
         printf("%s%lld", k ? " " : "", (long long)numbers[k]);
     tell_more(count);
 }
 
 // The line itself.
-
-static size_t false_at_first(const Replay *replay) {
-    size_t count = 0;
-    while (count < replay->trail.length &&
-           replay->reasons[variable_of(replay->trail.items[count])] == 0)
-        count++;
-    return count;
-}
 
 static void tell_derived(const Replay *replay, bool is_begun) {
     size_t count = false_at_first(replay);

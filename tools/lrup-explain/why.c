@@ -106,8 +106,10 @@ static void tell_lines_for(const Replay *replay, uint64_t identity) {
     printf("       --lines %llu would be enough\n", (Printed)lines_for(replay, identity));
 }
 
-static uint32_t number_of_owner(const Replay *replay, uint64_t identity) {
-    return (uint32_t)((identity - replay->clauses - 1) % replay->count) + 1;
+static void tell_beyond(const Replay *replay, uint64_t identity) {
+    printf("  why: %llu is above %llu, the last identity\n", (Printed)identity,
+           (Printed)replay->last);
+    tell_lines_for(replay, identity);
 }
 
 // Reads the first well-formed line, at `at` or later, that derives a clause. False at the end.
@@ -168,8 +170,8 @@ static uint32_t owner_of_all(const Replay *replay, const Stream *stream, uint64_
     Reading reading;
     for (unsigned char *at = stream->start; next_addition(stream, &at, &reading); count++) {
         if (reading.identity <= replay->clauses) return 0;
-        if (count == 0) owner = number_of_owner(replay, reading.identity);
-        if (number_of_owner(replay, reading.identity) != owner) return 0;
+        if (count == 0) owner = owner_of(replay, reading.identity)->number;
+        if (owner_of(replay, reading.identity)->number != owner) return 0;
     }
     return count < least ? 0 : owner;
 }
@@ -229,7 +231,7 @@ static void tell_lines_of(const Replay *replay, const Stream *stream, uint64_t i
     uint64_t greatest = identity;
     Reading reading;
     for (unsigned char *at = stream->start; next_addition(stream, &at, &reading);)
-        if (number_of_owner(replay, reading.identity) == stream->number &&
+        if (owner_of(replay, reading.identity)->number == stream->number &&
             reading.identity > greatest)
             greatest = reading.identity;
     if (greatest == identity) return tell_lines_for(replay, identity);
@@ -240,26 +242,20 @@ static void tell_lines_of(const Replay *replay, const Stream *stream, uint64_t i
 static void why_identity(const Replay *replay, const Stream *stream) {
     uint64_t identity = replay->line.identity;
     if (replay->line.kind == 'i') {
-        if (identity > replay->last)
-            printf("  why: %llu is above %llu, the last identity\n", (Printed)identity,
-                   (Printed)replay->last);
-        else
-            printf("  why: %llu is this stream's own: an import names a clause of another "
-                   "stream, or of the formula\n",
-                   (Printed)identity);
-        if (identity > replay->last)
-            tell_lines_for(replay, identity);
-        else
-            tell_count(replay, stream, identity);
+        if (identity > replay->last) return tell_beyond(replay, identity);
+        printf("  why: %llu is this stream's own: an import names a clause of another stream, or "
+               "of the formula\n",
+               (Printed)identity);
+        tell_count(replay, stream, identity);
         return;
     }
     if (identity <= replay->clauses) {
         printf("  why: %llu belongs to the formula, whose clauses are 1 to %llu\n",
                (Printed)identity, (Printed)replay->clauses);
         tell_miscounted(replay, stream);
-    } else if (number_of_owner(replay, identity) != stream->number) {
+    } else if (owner_of(replay, identity)->number != stream->number) {
         printf("  why: %llu belongs to stream %u: %u streams take turns above %llu\n",
-               (Printed)identity, number_of_owner(replay, identity), replay->count,
+               (Printed)identity, owner_of(replay, identity)->number, replay->count,
                (Printed)replay->clauses);
         if (!tell_count(replay, stream, 0)) {
             tell_order(replay, stream);
@@ -502,13 +498,9 @@ static void tell_chain(const Replay *replay, const Stream *stream) {
 static void why_not_live(const Replay *replay, const Stream *stream, uint64_t identity) {
     uint64_t line = line_deleting(stream, identity),
              later = identity <= replay->last ? line_deriving(stream, identity) : 0;
-    bool is_own = identity > replay->clauses && identity <= replay->last &&
-                  !is_foreign(replay, stream, identity);
     if (identity > replay->last) {
-        printf("  why: %llu is above %llu, the last identity\n", (Printed)identity,
-               (Printed)replay->last);
-        tell_lines_for(replay, identity);
-    } else if (is_own && clause_of(replay, identity) == 0) {
+        tell_beyond(replay, identity);
+    } else if (is_own(replay, stream, identity) && clause_of(replay, identity) == 0) {
         printf("  why: no line of this stream has derived %llu", (Printed)identity);
         printf(later ? "; line %llu does, which comes later\n" : "\n", (Printed)later);
     } else if (line <= stream->lines) {

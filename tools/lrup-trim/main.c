@@ -3,7 +3,6 @@
 // describes it, and is also the source of its --help.
 #define _POSIX_C_SOURCE 200809L
 #include <ctype.h>
-#include <signal.h>
 #include <stdio.h>
 #include <stdlib.h>
 #include <string.h>
@@ -12,26 +11,6 @@
 #include "packed.h"
 #include "row.h"
 #include "trim.h"
-
-// Errors and signals.
-
-static void end(const char *cause) {
-    fprintf(stderr, "lrup-trim: %s\n", cause);
-    outputs_remove();
-    exit(1);
-}
-
-static void end_by_signal(int number) {
-    outputs_remove();
-    signal(number, SIG_DFL);
-    raise(number);
-}
-
-static void take_signals(void) {
-    static const int numbers[] = { SIGHUP, SIGINT, SIGTERM };
-    for (size_t k = 0; k < sizeof numbers / sizeof *numbers; k++)
-        if (signal(numbers[k], end_by_signal) == SIG_IGN) signal(numbers[k], SIG_IGN);
-}
 
 // The command line.
 
@@ -84,7 +63,7 @@ static void assume(Proof *proof, const char *path) {
             llabs(literals[k]) > proof->formula.variables)
             literals = NULL;
         else if (literals[k] != 0)
-            proof->assumed[2 * (llabs(literals[k]) - 1) + (literals[k] < 0)] = 1;
+            proof->assumed[literal_of(literals[k])] = 1;
     }
     if (!literals)
         stop("%s: not one line of literals over FORMULA's variables and a final 0", path);
@@ -159,13 +138,13 @@ static void run(Proof *proof, const Texts *files) {
 
 int main(int count, char **words) {
     static Proof proof;
-    errors_handle(end);
+    errors_name("lrup-trim", outputs_remove);
     files_watch("lrup-trim", outputs_remove);
     const Texts *files = arguments_read("lrup-trim", help, options, count, words);
     check_outputs();
     proof.folder = folder_of(files);
     file_check(files->items[0]);
-    take_signals();
+    signals_handle(outputs_remove);
     run(&proof, files);
     if (given.sizes)
         printf("%llu %llu %d %d\n", (unsigned long long)proof.kept, (unsigned long long)proof.room,

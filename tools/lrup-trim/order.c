@@ -40,7 +40,7 @@ static void take(Proof *proof, Stream *stream, const Reading *reading, uint64_t 
     for (size_t k = 0; k < reading->length; k++) {
         int64_t literal = reading->literals[k];
         if (!proof->assumed || llabs(literal) > proof->formula.variables) return;
-        if (!proof->assumed[2 * (llabs(literal) - 1) + (literal > 0)]) return;
+        if (!proof->assumed[complement_of(literal_of(literal))]) return;
     }
     proof->target = number;
 }
@@ -194,12 +194,7 @@ static bool goes_on(Proof *proof, const unsigned char *dropped) {
 }
 
 void order(Proof *proof) {
-    if (proof->folder) {
-        uint32_t count = record_streams(proof->folder, 1, 0, NULL);
-        if (count == 0)
-            stop("%s: No such file or directory", record_file(proof->folder, 1, "stream-", 1));
-        round_add(proof, NULL, count);
-    }
+    if (proof->folder) round_add(proof, NULL, record_streams(proof->folder, 1, 0, NULL));
     proof->rounds.items[0].formula = proof->formula.clauses;
     proof->numbers = proof->formula.clauses + 1;
     for (bool more = true; more;) {

@@ -10,7 +10,6 @@
 
 #include "checks.h"
 #include "errors.h"
-#include "line_limits.h"
 #include "write.h"
 #include "trim.h"
 
@@ -56,11 +55,6 @@ void output_close(void) {
 
 // The core has FORMULA's variables, and its clauses are in FORMULA's order. A comment before a
 // clause gives the clause's number in FORMULA, as in lrupd's checkpoints.
-
-void formula_free(Formula *formula) {
-    formula->starts.items = grow(formula->starts.items, 0);
-    formula->literals.items = grow(formula->literals.items, 0);
-}
 
 static bool is_same(const Formula *one, size_t clause, const Formula *other, size_t another) {
     const size_t *starts = one->starts.items + clause, *others = other->starts.items + another;
@@ -130,15 +124,6 @@ static inline uint64_t identity_of(const Proof *proof, Number number) {
     return output->whole ? name_of(proof, number) : proof->place[number];
 }
 
-static void write_deletion(uint64_t lead) {
-    for (size_t k = 0; k < list.length; k += IDENTITIES_OF_A_LINE) {
-        size_t left = list.length - k;
-        write_number(lead, ' ');
-        write_bytes("d ", 2);
-        write_numbers(list.items + k, left < IDENTITIES_OF_A_LINE ? left : IDENTITIES_OF_A_LINE);
-    }
-}
-
 static void write_line(const Proof *proof, const Kept *line) {
     size_t count = line->count;
     const Number *hints = count > 0 ? cited.items + line->first : NULL;
@@ -147,17 +132,14 @@ static void write_line(const Proof *proof, const Kept *line) {
     list.length = count;
     for (size_t k = 0; k < count; k++) list.items[k] = identity_of(proof, hints[k]);
     write_number(identity, ' ');
-    for (size_t k = line->clause; k < line->clause + line->length; k++) {
-        if (literals.items[k] < 0) write_bytes("-", 1);
-        write_number((uint64_t)llabs(literals.items[k]), ' ');
-    }
-    write_bytes("0 ", 2);
+    write_written(literals.items + line->clause, line->length);
+    write_bytes(" ", 1);
     write_numbers(list.items, list.length);
     if (line->number == proof->target) return;
     list.length = 0;
     for (size_t k = 0; k < count; k++)
         if (proof->last_use[hints[k]] == line->number) PUSH(&list, identity_of(proof, hints[k]));
-    write_deletion(identity);
+    write_deletion(identity, &list);
 }
 
 static void piece_write(const Proof *proof, Output *const outputs[2]) {
@@ -220,7 +202,7 @@ static void lines_begin(Proof *proof, Output *place, bool whole) {
         next++;
     }
     for (; next <= proof->clauses && whole; next++) PUSH(&list, next);
-    write_deletion(proof->clauses);
+    write_deletion(proof->clauses, &list);
     write_flush();
 }
 

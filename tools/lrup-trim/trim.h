@@ -108,7 +108,6 @@ void output_open(Output *output);  // output goes there from now on
 void output_close(void);
 void outputs_remove(void);  // removes what was made so far; nothing after outputs_keep
 void outputs_keep(void);
-void formula_free(Formula *formula);
 void core_write(Proof *proof, Output *core, const char *formula);
 void lines_write(Proof *proof, Output *stream, Output *lrat);
 

@@ -1,7 +1,6 @@
 // Unverified, like the whole solver. A process with engines and filters, which reports to process
 // 0. It writes nothing on standard output.
 #include <algorithm>
-#include <cerrno>
 #include <cmath>
 #include <csignal>
 #include <cstdio>
@@ -105,12 +104,8 @@ class Follower {
     }
 
     static void keep(int file, const char *bytes, size_t length) {
-        while (length > 0) {
-            ssize_t count = write(file, bytes, length);
-            if (count < 0 && errno != EINTR)
-                refuse("cannot store data from process 0: " + error_text());
-            if (count > 0) bytes += count, length -= size_t(count);
-        }
+        if (!write_all(file, bytes, length))
+            refuse("cannot store data from process 0: " + error_text());
     }
 
     // Receives what process 0 broadcasts: the formula, assumptions and cubes; in a resumed run also
@@ -195,8 +190,7 @@ class Follower {
         text.insert(0, format("p cnf 0 %llu\n", (unsigned long long)count));
         saved_file = file_in_memory();
         keep(saved_file, text.data(), text.size());
-        std::string path =
-            "/proc/" + std::to_string(getpid()) + "/fd/" + std::to_string(saved_file);
+        const std::string path = name_of_file(saved_file);
         saved_bytes.clear();
         checkpoint_read(&saved, path.c_str());
         for (size_t k = 0; k < teams.size(); k++) {
