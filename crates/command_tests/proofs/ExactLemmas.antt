@@ -144,7 +144,7 @@ module _ (files : FilesView) (words : List Text) where
 -- Files that contracts describe completely: `left` is what their readers have left, and `content`
 -- the bytes of their new files.
 module _ {R W : Type 0} (left : R → List ℕ) (content : W → List ℕ) (reading : SourceView R) (has_failed : W → Bool) where
-  abbrev exact_effects : Effects
+  abbrev pub exact_effects : Effects
   exact_effects = record {
     State = ExactValue;
     Reader = R;
@@ -164,7 +164,7 @@ module _ {R W : Type 0} (left : R → List ℕ) (content : W → List ℕ) (read
     has_failed = has_failed;
   }
 
-  abbrev exact_view : ExactValue → FilesView
+  abbrev pub exact_view : ExactValue → FilesView
   exact_view first = record { its = exact_effects; first = first; contents = λ path. Some (text_or_none (text_at first path)) }
 
   -- the bytes that were read from a path are the text of the file there
@@ -177,12 +177,12 @@ module _ {R W : Type 0} (left : R → List ℕ) (content : W → List ℕ) (read
 
   -- opening files changes nothing
 
-  assumed_stays : (first : ExactValue) (vars : ℕ) (before : ExactValue) (path : Option Text) (cube : List ℤ) (after : ExactValue)
+  pub assumed_stays : (first : ExactValue) (vars : ℕ) (before : ExactValue) (path : Option Text) (cube : List ℤ) (after : ExactValue)
       → AreAssumed (WasReadIn (exact_view first)) vars before path cube after → after ≡ before
   assumed_stays first vars before None cube after assumed = assumed.1
   assumed_stays first vars before (Some path) cube after assumed = assumed.1.opened.0
 
-  opened_stays : (before : ExactValue) (paths : List Text) (readers : List R) (after : ExactValue)
+  pub opened_stays : (before : ExactValue) (paths : List Text) (readers : List R) (after : ExactValue)
       → AreOpened exact_effects.opens before paths readers after → after ≡ before
   opened_stays before [] [] after opened = opened
   opened_stays before (path ∷ paths) (reader ∷ readers) after opened =
@@ -201,7 +201,7 @@ module _ {R W : Type 0} (left : R → List ℕ) (content : W → List ℕ) (read
       ∙ ap (λ (all : List ℕ). record before { path = path; bytes = all; closing = closing })
       (wrote ∙ ap (λ (l : List ℕ). l ++ bytes) created.1)
 
-  saved_at : (before : ExactValue) (path bytes : List ℕ) (after : ExactValue)
+  pub saved_at : (before : ExactValue) (path bytes : List ℕ) (after : ExactValue)
       → WasSaved exact_effects.creates exact_effects.written exact_effects.keeps before path bytes after
       → after ≡ record before { path = path; bytes = bytes; closing = closings.Kept }
   saved_at before path bytes after saved =
@@ -321,7 +321,7 @@ module _ {R W : Type 0} (left : R → List ℕ) (content : W → List ℕ) (read
   -- Rounds.
 
   -- the files with another new file
-  abbrev with_new : List ℕ → List ℕ → ExactValue → ExactValue
+  abbrev pub with_new : List ℕ → List ℕ → ExactValue → ExactValue
   with_new path bytes files = record files { path = path; bytes = bytes; closing = closings.Kept }
 
   sized_stays : (path : Text) (old new : Sizes) (before after : ExactValue) → AreSized exact_effects path old before new after

@@ -1,1 +1,8 @@
 pub mod ExactLemmas
+mod Views
+mod FirstLemmas
+mod LineLemmas
+mod SavedLemmas
+mod AskLemmas
+mod AgreeLemmas
+mod ChainLemmas

@@ -1,5 +1,5 @@
--- Files in memory, about which contracts know everything: a formula and a stream, and the file that
--- was created last.
+-- Files in memory, about which contracts know everything: a formula, a stream and maybe a stream of
+-- round 2, and the file that was created last.
 use Rattle.std.specs.Prelude.{◌≡◌, ◌≢◌, ◌++◌, ◌⊎◌, ℕ, Bool, true, List, [], Option, None, Some, if◌then◌else◌, length, nat_eq}
 use Rattle.lrup_model.specs.Formula.{Cnf}
 use Rattle.dimacs.specs.FormulaText.{IsFormulaText}
@@ -14,20 +14,23 @@ use Rattle.run_files.specs.declared.files.OpenFault.TheVariants as open_faults
 use Rattle.command_tests.specs.declared.exact_files.Closing.{Closing}
 use Rattle.command_tests.specs.declared.exact_files.Closing.TheVariants as closings
 
--- the texts of the formula and of the stream; whether keeping a file fails; and the path, the bytes
--- and the closing of the file that was created last
+-- the texts of the formula, of the stream, and of the stream of round 2, if there is one; whether
+-- keeping a file fails; and the path, the bytes and the closing of the file that was created last
 pub record ExactValue : Type 0 where
   pub formula : List ℕ
   pub stream : List ℕ
+  pub next : Option (List ℕ)
   pub is_lossy : Bool
   pub path : List ℕ
   pub bytes : List ℕ
   pub closing : Closing
 
--- the initial files: the formula at each path of one byte, the stream at each path of two bytes
+-- the initial files: the formula at each path of one byte, the stream at each path of two bytes, and
+-- the stream of round 2, if there is one, at each path of 20 bytes, as dir/round-2.stream-1 is
 abbrev pub text_at : ExactValue → List ℕ → Option (List ℕ)
 text_at files path = if nat_eq (length path) 1 then Some files.formula
-    else (if nat_eq (length path) 2 then Some files.stream else None)
+    else (if nat_eq (length path) 2 then Some files.stream
+    else (if nat_eq (length path) 20 then files.next else None))
 
 -- the known bytes at a path: none if there is no file
 abbrev pub text_or_none : Option (List ℕ) → List ℕ

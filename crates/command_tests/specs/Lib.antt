@@ -1,1 +1,2 @@
 pub mod ExactFiles
+pub mod Outcomes

@@ -27,13 +27,15 @@ pub enum Closing {
     Discarded,
 }
 
-/// The formula at each path of one byte, the stream at each path of two bytes, and the file that
-/// was created last.
+/// The formula at each path of one byte, the stream at each path of two bytes, the stream of round
+/// 2, if there is one, at each path of 20 bytes, as `dir/round-2.stream-1` is, and the file that was
+/// created last.
 #[derive(Drop)]
 pub struct ExactFiles<'a> {
     alloc: Global,
     formula: &'a str,
     stream: &'a str,
+    next: Option<&'a str>,
     /// Whether keeping a file always fails.
     is_lossy: bool,
     /// Which write to a new file fails, counted from 1; 0 if no write fails.
@@ -44,31 +46,34 @@ pub struct ExactFiles<'a> {
 }
 
 impl<'a> Model for ExactFiles<'a> {
-    ghost use Rattle.std.specs.Prelude.{string_bytes};
+    ghost use Rattle.std.specs.Prelude.{option_map, string_bytes};
     ghost use Rattle.command_tests.specs.ExactFiles.{ExactValue};
 
     ghost Value = { ExactValue };
 
-    ghost view = { λ s. record { formula = s.formula.now; stream = s.stream.now; is_lossy = s.is_lossy; path = string_bytes s.path; bytes = s.bytes.items; closing = s.closing } };
+    ghost view = { λ s. record { formula = s.formula.now; stream = s.stream.now; next = option_map (λ text. text.now) s.next; is_lossy = s.is_lossy; path = string_bytes s.path; bytes = s.bytes.items; closing = s.closing } };
 }
 
 impl<'a> ExactFiles<'a> {
-    /// Files of these two texts, before any file is created. Write number `fails_at` to a new file
+    /// Files of these texts, before any file is created. Write number `fails_at` to a new file
     /// fails; if `fails_at` is 0, no write fails.
     pub fn new(
         alloc: Global,
         formula: &'a str,
         stream: &'a str,
+        next: Option<&'a str>,
         is_lossy: bool,
         fails_at: usize,
     ) -> ExactFiles<'a>
         ensures formula { result.formula ≡ formula.now }
         ensures stream { result.stream ≡ stream.now }
+        ensures next { result.next ≡ option_map (λ text. text.now) next.entry }
     {
         ExactFiles {
             alloc,
             formula,
             stream,
+            next,
             is_lossy,
             fails_at,
             path: String::new(alloc),
@@ -78,7 +83,9 @@ impl<'a> ExactFiles<'a> {
     }
 
     /// The path of the file that was created last, its bytes, and how it was closed.
-    pub fn last(&self) -> (&str, &[u8], Closing) {
+    pub fn last(&self) -> (&str, &[u8], Closing)
+        ensures { result.1.now ≡ self.now.bytes }
+    {
         (self.path.as_str(), self.bytes.as_slice(), self.closing)
     }
 
@@ -88,6 +95,7 @@ impl<'a> ExactFiles<'a> {
         match path.len() {
             1 => Some(self.formula),
             2 => Some(self.stream),
+            20 => self.next,
             _ => None,
         }
     }

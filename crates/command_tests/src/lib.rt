@@ -2,5 +2,6 @@
 #![tactic(auto)]
 
 pub mod exact_files;
+pub mod outcomes;
 #[cfg(test)]
 mod tests;

@@ -18,6 +18,7 @@ mod checkpoints;
 mod devices;
 mod exact;
 mod faults;
+mod outcomes;
 mod readings;
 mod refusals;
 mod rounds;

@@ -11,4 +11,3 @@ mod RefutingLemmas
 mod StreamLemmas
 mod RoundLemmas
 mod PrintedLemmas
-mod AloneLemmas

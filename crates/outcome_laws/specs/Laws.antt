@@ -1,5 +1,5 @@
 -- Laws of outcomes. Each is the contract of a function in the module `laws`.
-use Rattle.std.specs.Prelude.{◌≡◌, ◌⊎◌, ℕ, List, [], Some}
+use Rattle.std.specs.Prelude.{◌≡◌, ℕ, List, [], Some}
 use Rattle.lrup_model.specs.Cube.{CubeValue}
 use Rattle.lrup_model.specs.Event.{History}
 use Rattle.lrup_model.specs.Formula.{Cnf}
@@ -13,13 +13,12 @@ use Rattle.stream_check.specs.Closed.{IsOfStream, CiteWithin}
 use Rattle.stream_check.specs.Streams.{InputObservation, RunParamsValue}
 use Rattle.run_laws.specs.Groups.{one, IsRun}
 use Rattle.run_outcome.specs.ReportText.{stream_line}
-use Rattle.command_line.specs.CommandLine.{AskForRounds, IsCommandLineOf}
+use Rattle.command_line.specs.CommandLine.{IsCommandLineOf}
 use Rattle.command_line.specs.declared.words.CommandLine.{CommandLine}
 use Rattle.run_files.specs.Files.{FilesView, WasReadIn}
-use Rattle.run_files.specs.Causes.{IsCause}
 use Rattle.command.specs.Commands.{SinkChange}
 use Rattle.run_files.specs.Asked.{Text, sizes_of}
-use Rattle.command.specs.Rounds.{EndsWithFault, EndsWithReport, ProgramEnds, Round, WereRounds}
+use Rattle.command.specs.Rounds.{ProgramEnds, Round, WereRounds}
 use Rattle.dimacs.specs.FormulaText.{IsFormulaText}
 use Rattle.lrup_model.specs.Entailment.{IsUnsatisfiable}
 use Rattle.outcome_laws.specs.Outcomes.{bare_params, bare_report, layout_in, SayTheSame, ReportsOn}
@@ -90,14 +89,3 @@ Status0HasACommandLine files = (words : List Text) (after : files.its.State) (ou
     × IsCommandLineOf words given
     × WasReadIn files files.first given.formula.now bytes next
     × IsFormulaText bytes f × IsUnsatisfiable f
-
--- If the words ask for no rounds, either there is only one round, and nothing is done to the files
--- after it; or there is no report, and the cause of the fault is in round 1.
-abbrev pub OneRoundAlone : FilesView → Type 0
-OneRoundAlone files = (words : List Text) (after : files.its.State) (out err : SinkChange)
-    (status : ℕ) → ((folder : Text) → ¬ AskForRounds words folder)
-    → ProgramEnds files words after out err status
-    → ((ends : EndsWithReport files words after out err status) × (ends.before ≡ [])
-    × (ends.last.number ≡ 1) × (after ≡ ends.last.after))
-    ⊎ ((ends : EndsWithFault files words after out err status) × (ends.number ≡ 1)
-    × IsCause files words ends.fault after)

@@ -1,6 +1,6 @@
 //! Laws of outcomes. Each function does nothing; its contract is the law.
 ghost use Rattle.std.specs.Prelude.{ℕ};
-ghost use Rattle.outcome_laws.specs.Laws.{CubeIsIrrelevant, OneRoundAlone, SameBytesSameReport, OneCommandLine, OutcomesAgree, Status0HasACommandLine};
+ghost use Rattle.outcome_laws.specs.Laws.{CubeIsIrrelevant, SameBytesSameReport, OneCommandLine, OutcomesAgree, Status0HasACommandLine};
 ghost use Rattle.outcome_laws.specs.Printed.{NoBadLineShown};
 ghost use Rattle.outcome_laws.specs.Refuting.{OutcomesRefute, OutcomesRefuteUnder};
 ghost use Rattle.outcome_laws.specs.Serial.{SerialOutcomesAgree};
@@ -37,13 +37,6 @@ pub fn same_bytes_same_report()
 /// Two command lines of the same words have the same tries, sizes, streams and formula.
 pub fn one_command_line()
     ensures { OneCommandLine }
-{}
-
-/// If the words don't ask for rounds, either there is only one round, and nothing is done to the
-/// files after it; or there is no report, and the cause is in round 1. This follows from the clause
-/// `ends` of `command`.
-pub fn one_round_alone<F: Machine>(files: &F)
-    ensures { OneRoundAlone (⟦<F as Viewed>⟧.view files.now) }
 {}
 
 /// Take two runs of the program with the same tries and sizes, and a stream that cites only its own

@@ -5,7 +5,6 @@ use Rattle.std.specs.Prelude.{neg_ℤ, codes, slice_index_or}
 use Rattle.std.specs.Fmt.{digits}
 use Rattle.std.specs.List.{AllByRecursion, AllZip, Any, flat_map}
 use Rattle.lrup_model.specs.Clause.{Clause, Has, IsTautology}
-use Rattle.lrup_model.specs.Formula.{IsCnf}
 use Rattle.lrup_model.specs.Propagation.{Accepts, IsConflict, IsUnit}
 use Rattle.lrup_text.specs.Laws.{EmptyPending, OneFirstLine}
 use Rattle.lrup_text.specs.Lines.{StreamLine, Addition, IsWithinLimits, line_text}
@@ -16,10 +15,7 @@ use Rattle.lrup_model.specs.Layout.{Owns}
 use Rattle.lrup_model.specs.declared.layout.Owner.TheVariants as owners
 use Rattle.run_laws_tests.specs.Worked.{at_first, one_stream, two_streams, refutation, shared}
 use Rattle.test_support.specs.Worked.{four, first, second, third, fourth, unit}
-use Rattle.test_support.specs.lemmas.WorkedLemmas.{two_not_one, signs, unit_is_proper, first_is_unit, second_is_conflict, swapped}
-
-pub unit_is_shown : Accepts unit (first ∷ second ∷ [])
-unit_is_shown = (unit_is_proper, (pos 1, first_is_unit, second_is_conflict))
+use Rattle.test_support.specs.lemmas.WorkedLemmas.{two_not_one, signs, unit_is_proper, swapped, unit_is_shown, empty_is_shown, third_is_unit, fourth_is_conflict}
 
 -- The hints in reverse order
 
@@ -36,30 +32,6 @@ first_is_conflict = swapped (pos 1) (pos 2)
 
 pub unit_is_shown_swapped : Accepts unit (second ∷ first ∷ [])
 unit_is_shown_swapped = (unit_is_proper, (negsuc 0, second_is_unit, first_is_conflict))
-
--- The empty clause
-
-unit_is_unit : IsUnit [] unit (pos 2)
-unit_is_unit = record {
-  here = inl refl;
-  not_false = λ h. h;
-  not_true = λ h. h;
-  others = λ k h. elim h [ inl e ↦ inl (sym e) | inr none ↦ absurd none ];
-}
-
-third_is_unit : IsUnit (negsuc 1 ∷ []) third (pos 1)
-third_is_unit = record {
-  here = inl refl;
-  not_false = λ h. elim h [ inl e ↦ signs 1 1 (sym e) | inr none ↦ none ];
-  not_true = λ h. elim h [ inl e ↦ (let no : negsuc 1 ≡ negsuc 0 = e in cc) | inr none ↦ none ];
-  others = λ k h. elim h [ inl e ↦ inl (sym e) | inr there ↦ inr there ];
-}
-
-fourth_is_conflict : IsConflict (negsuc 1 ∷ negsuc 0 ∷ []) fourth
-fourth_is_conflict = swapped (negsuc 0) (negsuc 1)
-
-pub empty_is_shown : Accepts [] (unit ∷ third ∷ fourth ∷ [])
-empty_is_shown = ((λ t. t.1), (pos 2, unit_is_unit, (pos 1, third_is_unit, fourth_is_conflict)))
 
 -- The negative unit clause
 
@@ -106,49 +78,6 @@ adds_no_empty zero line within at empty = let none : unit ≡ [] = subst AddsEmp
 adds_no_empty (suc k) line within at empty = omega (arith, within)
 
 -- Whole streams
-
-pub four_is_cnf : IsCnf four
-four_is_cnf = record {
-  vars = omega arith;
-  count = omega arith;
-  clauses = (
-    (
-      record {
-        literals = ((omega arith, omega arith), ((omega arith, omega arith), tt));
-        each_once = ((λ h. elim h [ inl e ↦ two_not_one e | inr none ↦ none ]), ((λ h. h), tt));
-      },
-      omega arith,
-    ),
-    (
-      (
-        record {
-          literals = ((omega arith, omega arith), ((omega arith, omega arith), tt));
-          each_once = ((λ h. elim h [ inl e ↦ signs 2 0 e | inr none ↦ none ]), ((λ h. h), tt));
-        },
-        omega arith,
-      ),
-      (
-        (
-          record {
-            literals = ((omega arith, omega arith), ((omega arith, omega arith), tt));
-            each_once = ((λ h. elim h [ inl e ↦ signs 1 1 (sym e) | inr none ↦ none ]), ((λ h. h), tt));
-          },
-          omega arith,
-        ),
-        (
-          (
-            record {
-              literals = ((omega arith, omega arith), ((omega arith, omega arith), tt));
-              each_once = ((λ h. elim h [ inl e ↦ (let no : negsuc 1 ≡ negsuc 0 = e in cc) | inr none ↦ none ]), ((λ h. h), tt));
-            },
-            omega arith,
-          ),
-          tt,
-        ),
-      ),
-    ),
-  );
-}
 
 pub refutation_is_valid : IsValidProof four one_stream 1 (codes "5 2 0 1 2 0\n6 0 5 3 4 0\n") refutation
 unfolding digits

@@ -36,7 +36,7 @@ static ROWS: [Row; 9] = [
 #[test]
 fn what_lies_at_the_path(rt: HostRuntime) {
     for &((words, stream, is_lossy, fails_at), wanted) in &ROWS {
-        let mut files = ExactFiles::new(rt.alloc(), FOUR, stream, is_lossy, fails_at);
+        let mut files = ExactFiles::new(rt.alloc(), FOUR, stream, None, is_lossy, fails_at);
         let status = run_exactly(&rt, rt.alloc(), words, &mut files);
         let (path, bytes, closing) = files.last();
         let found = (status, path, text_of(bytes), closing);

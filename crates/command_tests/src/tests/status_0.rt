@@ -34,7 +34,7 @@ fn refutes<T: Threads + Wait + Sync + Clock>(
         × IsFormulaText formula.now f × IsUnsatisfiable f }
 {
     plain_words();
-    let mut files = ExactFiles::new(alloc, formula, stream, false, 0);
+    let mut files = ExactFiles::new(alloc, formula, stream, None, false, 0);
     status_0_has_a_command_line(&files);
     let mut out = Paper::new(alloc, 7, 0);
     let mut err = Paper::new(alloc, 7, 0);

@@ -1,9 +1,10 @@
--- Lemmas about hints of the example formula.
+-- Lemmas about the example formula and hints of it.
 use Rattle.std.specs.Prelude.{◌↔◌, ◌≡◌, ℕ, ℤ, pos, negsuc, neg_ℤ, nat_abs, [], ◌∷◌}
 use Rattle.std.proofs.Common.{refl, sym, ap, ◌∙◌, inl, inr, arith}
 use Rattle.lrup_model.specs.Clause.{Has, IsTautology}
-use Rattle.lrup_model.specs.Propagation.{IsConflict, IsUnit}
-use Rattle.test_support.specs.Worked.{first, second, unit}
+use Rattle.lrup_model.specs.Formula.{IsCnf}
+use Rattle.lrup_model.specs.Propagation.{Accepts, IsConflict, IsUnit}
+use Rattle.test_support.specs.Worked.{first, second, third, fourth, four, unit}
 
 pub two_not_one : pos 2 ≡ pos 1 → ⊥
 two_not_one e = let same : 2 ≡ 1 = ap nat_abs e in omega (arith, same)
@@ -41,3 +42,76 @@ same_first l = (
     | inr more ↦ elim more [ inl one ↦ inl one | inr rest ↦ elim rest [ inl two ↦ inr (inl two) | inr none ↦ absurd none ] ]
   ],
 )
+
+-- the first two clauses show the unit clause
+pub unit_is_shown : Accepts unit (first ∷ second ∷ [])
+unit_is_shown = (unit_is_proper, (pos 1, first_is_unit, second_is_conflict))
+
+-- The empty clause
+
+unit_is_unit : IsUnit [] unit (pos 2)
+unit_is_unit = record {
+  here = inl refl;
+  not_false = λ h. h;
+  not_true = λ h. h;
+  others = λ k h. elim h [ inl e ↦ inl (sym e) | inr none ↦ absurd none ];
+}
+
+pub third_is_unit : IsUnit (negsuc 1 ∷ []) third (pos 1)
+third_is_unit = record {
+  here = inl refl;
+  not_false = λ h. elim h [ inl e ↦ signs 1 1 (sym e) | inr none ↦ none ];
+  not_true = λ h. elim h [ inl e ↦ (let no : negsuc 1 ≡ negsuc 0 = e in cc) | inr none ↦ none ];
+  others = λ k h. elim h [ inl e ↦ inl (sym e) | inr there ↦ inr there ];
+}
+
+pub fourth_is_conflict : IsConflict (negsuc 1 ∷ negsuc 0 ∷ []) fourth
+fourth_is_conflict = swapped (negsuc 0) (negsuc 1)
+
+pub empty_is_shown : Accepts [] (unit ∷ third ∷ fourth ∷ [])
+empty_is_shown = ((λ t. t.1), (pos 2, unit_is_unit, (pos 1, third_is_unit, fourth_is_conflict)))
+
+-- The formula
+
+pub four_is_cnf : IsCnf four
+four_is_cnf = record {
+  vars = omega arith;
+  count = omega arith;
+  clauses = (
+    (
+      record {
+        literals = ((omega arith, omega arith), ((omega arith, omega arith), tt));
+        each_once = ((λ h. elim h [ inl e ↦ two_not_one e | inr none ↦ none ]), ((λ h. h), tt));
+      },
+      omega arith,
+    ),
+    (
+      (
+        record {
+          literals = ((omega arith, omega arith), ((omega arith, omega arith), tt));
+          each_once = ((λ h. elim h [ inl e ↦ signs 2 0 e | inr none ↦ none ]), ((λ h. h), tt));
+        },
+        omega arith,
+      ),
+      (
+        (
+          record {
+            literals = ((omega arith, omega arith), ((omega arith, omega arith), tt));
+            each_once = ((λ h. elim h [ inl e ↦ signs 1 1 (sym e) | inr none ↦ none ]), ((λ h. h), tt));
+          },
+          omega arith,
+        ),
+        (
+          (
+            record {
+              literals = ((omega arith, omega arith), ((omega arith, omega arith), tt));
+              each_once = ((λ h. elim h [ inl e ↦ (let no : negsuc 1 ≡ negsuc 0 = e in cc) | inr none ↦ none ]), ((λ h. h), tt));
+            },
+            omega arith,
+          ),
+          tt,
+        ),
+      ),
+    ),
+  );
+}

@@ -1,6 +1,6 @@
 use Rattle.std.proofs.Common.{[], ◌∷◌, refl, arith}
-use Rattle.run_laws_tests.proofs.WorkedLemmas.{unit_is_shown, unit_is_shown_swapped, one_is_the_formulas}
-use Rattle.test_support.specs.lemmas.WorkedLemmas.{same_first}
+use Rattle.run_laws_tests.proofs.WorkedLemmas.{unit_is_shown_swapped, one_is_the_formulas}
+use Rattle.test_support.specs.lemmas.WorkedLemmas.{same_first, unit_is_shown}
 use Rattle.run_laws_tests.proofs.worked.lines_are_valid.Goals as goal
 use Rattle.test_support.specs.Worked.{first, second}
 

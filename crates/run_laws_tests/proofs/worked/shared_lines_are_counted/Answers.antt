@@ -2,7 +2,8 @@ use Rattle.std.proofs.Common.{true, refl, ap, inl, inr}
 use Rattle.std.specs.Fmt.{digits}
 use Rattle.stream_check.specs.declared.report.Report.{Report}
 use Rattle.run_laws_tests.specs.Worked.{shared, two_streams, run_params_at}
-use Rattle.run_laws_tests.proofs.WorkedLemmas.{four_is_cnf, shared_is_valid}
+use Rattle.run_laws_tests.proofs.WorkedLemmas.{shared_is_valid}
+use Rattle.test_support.specs.lemmas.WorkedLemmas.{four_is_cnf}
 use Rattle.run_laws_tests.proofs.worked.shared_lines_are_counted.Goals as goal
 use Rattle.test_support.specs.Worked.{four}
 

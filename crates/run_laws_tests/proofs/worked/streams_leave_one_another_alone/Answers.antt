@@ -1,5 +1,6 @@
 use Rattle.std.proofs.Common.{[], ◌∷◌, refl, arith}
-use Rattle.run_laws_tests.proofs.WorkedLemmas.{unit_is_shown, empty_is_shown, negated_is_shown}
+use Rattle.run_laws_tests.proofs.WorkedLemmas.{negated_is_shown}
+use Rattle.test_support.specs.lemmas.WorkedLemmas.{unit_is_shown, empty_is_shown}
 use Rattle.run_laws_tests.proofs.worked.streams_leave_one_another_alone.Goals as goal
 use Rattle.test_support.specs.Worked.{first, second, third, fourth, unit}
 

@@ -1,7 +1,8 @@
 use Rattle.std.proofs.Common.{◌++◌, refl, inl, inr, arith}
 use Rattle.std.specs.Prelude.{codes}
 use Rattle.run_laws_tests.specs.Worked.{one_stream, refutation, run_params_at}
-use Rattle.run_laws_tests.proofs.WorkedLemmas.{four_is_cnf, refutation_is_valid}
+use Rattle.run_laws_tests.proofs.WorkedLemmas.{refutation_is_valid}
+use Rattle.test_support.specs.lemmas.WorkedLemmas.{four_is_cnf}
 use Rattle.run_laws_tests.proofs.worked.the_beginning_is_counted.Goals as goal
 use Rattle.test_support.specs.Worked.{four}
 
