@@ -23,7 +23,8 @@ use Rattle.outcome_laws.specs.Outcomes.{layout_in}
 use Rattle.outcome_laws.specs.Serial.{AskForSameTurns, SerialOutcomesAgree}
 use Rattle.test_support.specs.Worked.{four}
 use Rattle.command_tests.specs.ExactFiles.{ExactValue}
-use Rattle.command_tests.specs.Outcomes.{AddsUnit, FirstLinesAgree, HaveSameTexts, TurnsAgree, adds_unit, beside, four_text, other_beside, other_turns, turns}
+use Rattle.command_tests.specs.Outcomes.{AddsUnit, FirstLinesAgree, HaveSameTexts, TurnsAgree, line_of_round_1}
+use Rattle.command_tests.specs.Outcomes.{beside, four_text, other_beside, other_turns, turns}
 use Rattle.command_tests.proofs.ExactLemmas.{exact_view}
 use Rattle.command_tests.proofs.FirstLemmas.{OneFormula, only_path}
 use Rattle.command_tests.proofs.AskLemmas.{four_is_text}
@@ -40,7 +41,7 @@ record Gives (formula : Text) (streams : List Text) (serial : Bool) (given : Com
   pub rounds : rounds_of given.next ≡ None
   pub serial_is : given.serial ≡ serial
 
-path_is : (formula path : Text) → Some formula ≡ Some path → path ≡ formula
+pub path_is : (formula path : Text) → Some formula ≡ Some path → path ≡ formula
 path_is formula path is = cc
 
 paths_are : (streams paths : List Text) → Some streams ≡ Some paths → paths ≡ streams
@@ -153,11 +154,16 @@ module _ {R W : Type 0} (rest : R → List ℕ) (content : W → List ℕ) (read
   cites : EmptyPending → (layout : LayoutValue) → layout ≡ layout_in four (record { streams = 2; lines = 65536; room = 1048576 })
       → CiteWithin layout (one 1) (codes "5 2 0 1 2 0\n")
   cites pending layout is = subst (λ (l : LayoutValue). CiteWithin l (one 1) (codes "5 2 0 1 2 0\n")) (sym is) (record {
-    lines = adds_unit ∷ [];
+    lines = line_of_round_1 ∷ [];
     rest = [];
     cut = unit_cut pending;
-    within = (((λ t owns. let no : owners.Formula ≡ owners.Stream t = owns in cc),
-        ((λ t owns. let no : owners.Formula ≡ owners.Stream t = owns in cc), tt)), tt);
+    within = (
+      (
+        (λ t owns. let no : owners.Formula ≡ owners.Stream t = owns in cc),
+        ((λ t owns. let no : owners.Formula ≡ owners.Stream t = owns in cc), tt),
+      ),
+      tt,
+    );
   })
 
   pub first_lines_agree : PrintedIsRead → OneFormula → EmptyPending → (start others : ExactValue) → OutcomesAgree (view start) (view others)

@@ -1,5 +1,6 @@
 -- Words and files that ask for two valid rounds.
-use Rattle.std.proofs.Common.{◌≡◌, ◌∙◌, ◌++◌, ◌+◌, ◌<◌, ℕ, Bool, true, false, List, [], ◌∷◌, Option, None, Some, map, length, refl, sym, ap, subst, inl, inr, arith}
+use Rattle.std.proofs.Common.{◌≡◌, ◌∙◌, ◌++◌, ◌+◌, ◌<◌, ℕ, Bool, true, false, List, [], ◌∷◌}
+use Rattle.std.proofs.Common.{Option, None, Some, map, length, refl, sym, ap, subst, inl, inr, arith}
 use Rattle.std.specs.Prelude.{codes}
 use Rattle.std.specs.Fmt.{digits}
 use Rattle.std.specs.List.{AllByRecursion, flat_map}
@@ -35,11 +36,12 @@ use Rattle.command.specs.Rounds.{CarriesOn, IsFirst, Round, WereRounds}
 use Rattle.command.specs.lemmas.SavedLemmas.{carried}
 use Rattle.outcome_laws.specs.Laws.{OneCommandLine}
 use Rattle.outcome_laws.specs.Outcomes.{layout_in}
-use Rattle.outcome_laws.specs.Valid.{AreValidAlone, AreValidInOrder, AskForValidRounds, IsAskedOf, IsProvided, IsRefutedAlone, IsRefutedInOrder, RoundAsk}
+use Rattle.outcome_laws.specs.Valid.{AreValidAlone, AreValidInOrder, AskForValidRounds, IsAskedOf}
+use Rattle.outcome_laws.specs.Valid.{IsProvided, IsRefutedAlone, IsRefutedInOrder, RoundAsk}
 use Rattle.test_support.specs.Worked.{first, second, third, fourth, four, unit}
 use Rattle.test_support.specs.lemmas.WorkedLemmas.{empty_is_shown, four_is_cnf, unit_is_shown}
 use Rattle.command_tests.specs.ExactFiles.{ExactValue, text_or_none}
-use Rattle.command_tests.specs.Outcomes.{RefuteInRound2, adds_empty, adds_unit, five, four_text, two_rounds}
+use Rattle.command_tests.specs.Outcomes.{RefuteInRound2, line_of_round_2, line_of_round_1, five, four_text, two_rounds}
 use Rattle.command_tests.proofs.ExactLemmas.{assumed_stays, exact_effects, exact_view, opened_stays, saved_at, with_new}
 use Rattle.command_tests.proofs.FirstLemmas.{OneFormula, formula_is, is_first, layout_is, left_is, only_path, sizes_are}
 use Rattle.command_tests.proofs.LineLemmas.{fifth_added, first_adds}
@@ -108,7 +110,7 @@ first_is_layout = record { vars = omega arith; clauses = omega arith; some_strea
 last_is_layout : IsLayout last_layout
 last_is_layout = record { vars = omega arith; clauses = omega arith; some_stream = omega arith; streams = omega arith; row = omega arith }
 
-unit_is_valid : IsValidProof four first_layout 1 (codes "5 2 0 1 2 0\n") (adds_unit ∷ [])
+unit_is_valid : IsValidProof four first_layout 1 (codes "5 2 0 1 2 0\n") (line_of_round_1 ∷ [])
 unfolding digits
 unit_is_valid = record {
   text = refl;
@@ -134,7 +136,7 @@ unit_is_valid = record {
   );
 }
 
-empty_is_valid : IsValidProof five last_layout 1 (codes "6 0 5 3 4 0\n") (adds_empty ∷ [])
+empty_is_valid : IsValidProof five last_layout 1 (codes "6 0 5 3 4 0\n") (line_of_round_2 ∷ [])
 unfolding digits
 empty_is_valid = record {
   text = refl;
@@ -164,10 +166,10 @@ empty_is_valid = record {
 abbrev alone : StreamLine → List Step
 alone line = record { stream = 1; line = line } ∷ []
 
-unit_in_order : IsValidOrder four first_layout (alone adds_unit)
+unit_in_order : IsValidOrder four first_layout (alone line_of_round_1)
 unit_in_order = record { streams = ((omega arith, omega arith), tt); fits = unit_is_valid.fits; valid = unit_is_valid.valid }
 
-empty_in_order : IsValidOrder five last_layout (alone adds_empty)
+empty_in_order : IsValidOrder five last_layout (alone line_of_round_2)
 empty_in_order = record { streams = ((omega arith, omega arith), tt); fits = empty_is_valid.fits; valid = empty_is_valid.valid }
 
 -- with these five clauses live and wanted, exactly these are saved
@@ -208,137 +210,138 @@ module _ {R W : Type 0} (rest : R → List ℕ) (content : W → List ℕ) (read
 
   module _ (Before Last : RoundAsk) (before : Before four first_layout view.contents (codes "s1" ∷ []))
       (last : (path bytes : List ℕ) → Last five last_layout (its.contents (later_files path bytes)) (stream_paths (codes "dir") 2 1))
-      where
-    abbrev IsReady : Sizes → ExactValue → Type 0
-    IsReady sizes sized = ((after : ExactValue) → ¬ its.lacks sized (stream_path (codes "dir") 2 1) after)
-        × ((fault : LayoutFault) → ¬ IsFault (layout_in five sizes) fault)
-        × IsAskedOf Before Last 2 2 five sizes (its.contents sized) (stream_paths (codes "dir") 2 sizes.streams)
+    where
+      abbrev IsReady : Sizes → ExactValue → Type 0
+      IsReady sizes sized = ((after : ExactValue) → ¬ its.lacks sized (stream_path (codes "dir") 2 1) after)
+          × ((fault : LayoutFault) → ¬ IsFault (layout_in five sizes) fault)
+          × IsAskedOf Before Last 2 2 five sizes (its.contents sized) (stream_paths (codes "dir") 2 sizes.streams)
 
-    ready_then : (path bytes : List ℕ) → IsReady (sizes_of given) (later_files path bytes)
-    unfolding digits
-    ready_then path bytes = (
-      λ after lacks. let no : Some (codes "6 0 5 3 4 0\n") ≡ None = sym files.next ∙ lacks.1 in cc,
-      no_fault last_layout last_is_layout,
-      record { earlier = λ below. absurd (omega (arith, below)); at_last = λ is. last path bytes },
-    )
+      ready_then : (path bytes : List ℕ) → IsReady (sizes_of given) (later_files path bytes)
+      unfolding digits
+      ready_then path bytes = (
+        λ after lacks. let no : Some (codes "6 0 5 3 4 0\n") ≡ None = sym files.next ∙ lacks.1 in cc,
+        no_fault last_layout last_is_layout,
+        record { earlier = λ below. absurd (omega (arith, below)); at_last = λ is. last path bytes },
+      )
 
-    ready : (path bytes : List ℕ) (sizes : Sizes) (sized : ExactValue)
-        → AreSized its (sizes_path (codes "dir") 2) (sizes_of given) (later_files path bytes) sizes sized → IsReady sizes sized
-    unfolding digits
-    ready path bytes sizes sized (inl (lacks, same)) =
-        subst (λ (z : Sizes). IsReady z sized) (sym same)
-        (subst (λ (s : ExactValue). IsReady (sizes_of given) s) (sym lacks.0) (ready_then path bytes))
-    ready path bytes sizes sized (inr (text, read, is)) = absurd (let no : None ≡ Some (rest read.reader) = read.opened.1 in cc)
+      ready : (path bytes : List ℕ) (sizes : Sizes) (sized : ExactValue)
+          → AreSized its (sizes_path (codes "dir") 2) (sizes_of given) (later_files path bytes) sizes sized → IsReady sizes sized
+      unfolding digits
+      ready path bytes sizes sized (inl (lacks, same)) =
+          subst (λ (z : Sizes). IsReady z sized) (sym same)
+          (subst (λ (s : ExactValue). IsReady (sizes_of given) s) (sym lacks.0) (ready_then path bytes))
+      ready path bytes sizes sized (inr (text, read, is)) = absurd (let no : None ≡ Some (rest read.reader) = read.opened.1 in cc)
 
-    abbrev Provided : Text → ℕ → Sizes → Cnf → ExactValue → Type 0
-    Provided folder number old formula after = IsProvided Before Last 2 its folder number old formula after
+      abbrev Provided : Text → ℕ → Sizes → Cnf → ExactValue → Type 0
+      Provided folder number old formula after = IsProvided Before Last 2 its folder number old formula after
 
-    provided : (path bytes : List ℕ) → Provided (codes "dir") 2 (sizes_of given) five (later_files path bytes)
-    unfolding digits
-    provided path bytes = record {
-      sizes = λ after none. let no : None ≡ Some (rest none.reader) = none.opened.1 in cc;
-      ready = ready path bytes;
-    }
-
-    module _ (read : PrintedIsRead) (one_formula : OneFormula) (alike : OneCommandLine) (one_cut : OneCut) (pending : EmptyPending) where
-      module _ (line : CommandLine) (cube : CubeValue) (round : Round its line cube) (earlier : List (Round its line cube)) (next : Cnf)
-          (is_line : IsCommandLineOf two_rounds line) (were : WereRounds view line cube round earlier) (below : round.number < 2)
-          (on : CarriesOn round next) where
-        first_round : IsFirst were.formula were.later round
-        first_round = is_first were.formula were.later round earlier were.rounds below
-
-        known : view.contents given.formula.now ≡ Some four_text
-        known = ap (λ (t : List ℕ). Some t) files.formula
-
-        round_is : round.formula ≡ four
-        round_is =
-            formula_is view two_rounds given command_line alike line cube round earlier is_line were first_round one_formula four_text four
-            known (four_is_text read)
-
-        abbrev layout : LayoutValue
-        layout = layout_in round.formula round.sizes
-
-        in_layout : layout ≡ first_layout
-        in_layout =
-            layout_is view two_rounds given command_line alike line cube round earlier is_line were first_round one_formula four_text four
-            known (four_is_text read)
-
-        left : map reading.left round.readers ≡ Some (codes "5 2 0 1 2 0\n") ∷ []
-        left =
-            left_is view two_rounds given command_line alike line cube round earlier is_line were first_round
-            ∙ ap (λ (t : List ℕ). Some t ∷ []) files.stream
-
-        next_is : next ≡ five
-        next_is =
-            let run = round.checked.ran.run in
-            let dropped = round.checked.dropped in
-            let run_params = run_params_by line cube round.formula round.sizes in
-            let adds = first_adds one_cut pending reading run_params run.history round.readers
-            round.checked.lasts run.streams round.reports dropped left (run.count ∙ ap (λ (l : LayoutValue). l.streams) in_layout)
-            run.match_inputs run.judged on.ended round.checked.ran.have_dropped in
-            let saved = carried_saved round next on in
-            let count : layout.clauses ≡ 4 = ap (λ (l : LayoutValue). l.clauses) in_layout in
-            let stays : (id : ℕ) → 0 < id → id < 5 → state round.formula run.history id ≡ states.live (clause_at four id) =
-            λ id some few.
-            formula_stays round.formula layout run.history id (record { vars = refl; clauses = refl; literals = refl }) run.legal.events some
-            (omega (arith, few, count))
-            ∙ ap (λ (f : Cnf). states.live (clause_at f id)) round_is in
-            let fifth = fifth_added round.formula layout (stream_params run_params 1) run.history run.legal.events
-            (subst (λ (l : LayoutValue). Owns l 1 5) (sym in_layout) refl) adds.0 in
-            saved.is
-            ∙ ap (λ (v : ℕ). printed v (wanted_of (is_wanted dropped) 1 saved.replies)) (ap (λ (l : LayoutValue). l.vars) in_layout)
-            ∙ five_saved (state round.formula run.history) (is_wanted dropped) saved.replies (stays 1 (omega arith) (omega arith))
-            (stays 2 (omega arith) (omega arith)) (stays 3 (omega arith) (omega arith)) (stays 4 (omega arith) (omega arith)) fifth adds.1
-            (saved.count ∙ ap last_identity in_layout) (saved.answers 1)
-
-        folder_is : on.folder ≡ codes "dir"
-        folder_is =
-            let both : Some on.folder ≡ Some (codes "dir") =
-            sym on.asked ∙ is_line.said.rounds ∙ sym command_line.said.rounds in cc
-
-        after_is : (path : List ℕ) × (bytes : List ℕ) × (round.after ≡ later_files path bytes)
-        after_is =
-            let path = formula_path on.folder (round.number + 1) in
-            let kept = carried round next on in
-            let stays : round.opened ≡ start =
-            opened_stays rest content reading has_failed were.later line.streams round.readers round.opened first_round.opened.opened
-            ∙ assumed_stays rest content reading has_failed start were.formula.vars were.next (assumed_at line) cube were.later were.assumed
-            ∙ were.is_formula.1.opened.0 in (
-              path,
-              kept.bytes,
-              saved_at rest content reading has_failed round.opened path kept.bytes round.after kept.saved
-              ∙ ap (with_new rest content reading has_failed path kept.bytes) stays,
-            )
-
-        provided_later : Provided on.folder (round.number + 1) round.sizes next round.after
-        provided_later =
-            let number : round.number + 1 ≡ 2 = omega (arith, first_round.number) in
-            subst (λ (f : Text). Provided f (round.number + 1) round.sizes next round.after) (sym folder_is)
-            (subst (λ (n : ℕ). Provided (codes "dir") n round.sizes next round.after) (sym number)
-            (subst (λ (z : Sizes). Provided (codes "dir") 2 z next round.after)
-            (sym (sizes_are view two_rounds given command_line alike line cube round earlier is_line were first_round))
-            (subst (λ (f : Cnf). Provided (codes "dir") 2 (sizes_of given) f round.after) (sym next_is)
-            (subst (λ (s : ExactValue). Provided (codes "dir") 2 (sizes_of given) five s) (sym after_is.2)
-            (provided after_is.0 after_is.1)))))
-
-      asked : AskForValidRounds Before Last view two_rounds 2
-      asked = record {
-        asks = record {
-          given = given;
-          command_line = command_line;
-          text = four_text;
-          known = ap (λ (t : List ℕ). Some t) files.formula;
-          formula = four;
-          is_text = four_is_text read;
-          layout = no_fault first_layout first_is_layout;
-          assumptions = tt;
-        };
-        some = omega arith;
-        few = omega arith;
-        rounds = λ more. (codes "dir", refl);
-        first = record { earlier = λ below. before; at_last = λ is. absurd (omega (arith, is)) };
-        later = provided_later;
+      provided : (path bytes : List ℕ) → Provided (codes "dir") 2 (sizes_of given) five (later_files path bytes)
+      unfolding digits
+      provided path bytes = record {
+        sizes = λ after none. let no : None ≡ Some (rest none.reader) = none.opened.1 in cc;
+        ready = ready path bytes;
       }
+
+      module _ (read : PrintedIsRead) (one_formula : OneFormula) (alike : OneCommandLine) (one_cut : OneCut) (pending : EmptyPending) where
+        module _ (line : CommandLine) (cube : CubeValue) (round : Round its line cube) (earlier : List (Round its line cube)) (next : Cnf)
+            (is_line : IsCommandLineOf two_rounds line) (were : WereRounds view line cube round earlier) (below : round.number < 2)
+            (on : CarriesOn round next) where
+          first_round : IsFirst were.formula were.later round
+          first_round = is_first were.formula were.later round earlier were.rounds below
+
+          known : view.contents given.formula.now ≡ Some four_text
+          known = ap (λ (t : List ℕ). Some t) files.formula
+
+          round_is : round.formula ≡ four
+          round_is =
+              formula_is view two_rounds given command_line alike line cube round earlier is_line were
+              first_round one_formula four_text four known (four_is_text read)
+
+          abbrev layout : LayoutValue
+          layout = layout_in round.formula round.sizes
+
+          in_layout : layout ≡ first_layout
+          in_layout =
+              layout_is view two_rounds given command_line alike line cube round earlier is_line were first_round one_formula four_text four
+              known (four_is_text read)
+
+          left : map reading.left round.readers ≡ Some (codes "5 2 0 1 2 0\n") ∷ []
+          left =
+              left_is view two_rounds given command_line alike line cube round earlier is_line were first_round
+              ∙ ap (λ (t : List ℕ). Some t ∷ []) files.stream
+
+          next_is : next ≡ five
+          next_is =
+              let run = round.checked.ran.run in
+              let dropped = round.checked.dropped in
+              let run_params = run_params_by line cube round.formula round.sizes in
+              let adds = first_adds one_cut pending reading run_params run.history round.readers
+              round.checked.lasts run.streams round.reports dropped left (run.count ∙ ap (λ (l : LayoutValue). l.streams) in_layout)
+              run.match_inputs run.judged on.ended round.checked.ran.have_dropped in
+              let saved = carried_saved round next on in
+              let count : layout.clauses ≡ 4 = ap (λ (l : LayoutValue). l.clauses) in_layout in
+              let stays : (id : ℕ) → 0 < id → id < 5 → state round.formula run.history id ≡ states.live (clause_at four id) =
+              λ id some few.
+              formula_stays round.formula layout run.history id
+              (record { vars = refl; clauses = refl; literals = refl }) run.legal.events some (omega (arith, few, count))
+              ∙ ap (λ (f : Cnf). states.live (clause_at f id)) round_is in
+              let fifth = fifth_added round.formula layout (stream_params run_params 1) run.history run.legal.events
+              (subst (λ (l : LayoutValue). Owns l 1 5) (sym in_layout) refl) adds.0 in
+              saved.is
+              ∙ ap (λ (v : ℕ). printed v (wanted_of (is_wanted dropped) 1 saved.replies)) (ap (λ (l : LayoutValue). l.vars) in_layout)
+              ∙ five_saved (state round.formula run.history) (is_wanted dropped) saved.replies (stays 1 (omega arith) (omega arith))
+              (stays 2 (omega arith) (omega arith)) (stays 3 (omega arith) (omega arith)) (stays 4 (omega arith) (omega arith)) fifth adds.1
+              (saved.count ∙ ap last_identity in_layout) (saved.answers 1)
+
+          folder_is : on.folder ≡ codes "dir"
+          folder_is =
+              let both : Some on.folder ≡ Some (codes "dir") =
+              sym on.asked ∙ is_line.said.rounds ∙ sym command_line.said.rounds in cc
+
+          after_is : (path : List ℕ) × (bytes : List ℕ) × (round.after ≡ later_files path bytes)
+          after_is =
+              let path = formula_path on.folder (round.number + 1) in
+              let kept = carried round next on in
+              let stays : round.opened ≡ start =
+              opened_stays rest content reading has_failed were.later line.streams round.readers round.opened first_round.opened.opened
+              ∙ assumed_stays rest content reading has_failed start were.formula.vars were.next (assumed_at line)
+              cube were.later were.assumed
+              ∙ were.is_formula.1.opened.0 in (
+                path,
+                kept.bytes,
+                saved_at rest content reading has_failed round.opened path kept.bytes round.after kept.saved
+                    ∙ ap (with_new rest content reading has_failed path kept.bytes) stays,
+              )
+
+          provided_later : Provided on.folder (round.number + 1) round.sizes next round.after
+          provided_later =
+              let number : round.number + 1 ≡ 2 = omega (arith, first_round.number) in
+              subst (λ (f : Text). Provided f (round.number + 1) round.sizes next round.after) (sym folder_is)
+              (subst (λ (n : ℕ). Provided (codes "dir") n round.sizes next round.after) (sym number)
+              (subst (λ (z : Sizes). Provided (codes "dir") 2 z next round.after)
+              (sym (sizes_are view two_rounds given command_line alike line cube round earlier is_line were first_round))
+              (subst (λ (f : Cnf). Provided (codes "dir") 2 (sizes_of given) f round.after) (sym next_is)
+              (subst (λ (s : ExactValue). Provided (codes "dir") 2 (sizes_of given) five s) (sym after_is.2)
+              (provided after_is.0 after_is.1)))))
+
+        asked : AskForValidRounds Before Last view two_rounds 2
+        asked = record {
+          asks = record {
+            given = given;
+            command_line = command_line;
+            text = four_text;
+            known = ap (λ (t : List ℕ). Some t) files.formula;
+            formula = four;
+            is_text = four_is_text read;
+            layout = no_fault first_layout first_is_layout;
+            assumptions = tt;
+          };
+          some = omega arith;
+          few = omega arith;
+          rounds = λ more. (codes "dir", refl);
+          first = record { earlier = λ below. before; at_last = λ is. absurd (omega (arith, is)) };
+          later = provided_later;
+        }
 
   -- The streams
 
@@ -360,9 +363,9 @@ module _ {R W : Type 0} (rest : R → List ℕ) (content : W → List ℕ) (read
       (λ s path at.
       let here = stream_at s path at in (
         codes "5 2 0 1 2 0\n",
-        adds_unit ∷ [],
+        line_of_round_1 ∷ [],
         here.1,
-        subst (λ (t : ℕ). IsValidProof four first_layout t (codes "5 2 0 1 2 0\n") (adds_unit ∷ [])) (sym here.0) unit_is_valid,
+        subst (λ (t : ℕ). IsValidProof four first_layout t (codes "5 2 0 1 2 0\n") (line_of_round_1 ∷ [])) (sym here.0) unit_is_valid,
       ))
       (λ path bytes. (
         stream_path (codes "dir") 2 1,
@@ -374,9 +377,9 @@ module _ {R W : Type 0} (rest : R → List ℕ) (content : W → List ℕ) (read
             proof = codes "6 0 5 3 4 0\n";
             more = [];
             begins = refl;
-            lines = adds_empty ∷ [];
+            lines = line_of_round_2 ∷ [];
             valid = empty_is_valid;
-            empty = (0, adds_empty, omega arith, refl, refl);
+            empty = (0, line_of_round_2, omega arith, refl, refl);
           },
           omega arith,
         ),
@@ -385,25 +388,26 @@ module _ {R W : Type 0} (rest : R → List ℕ) (content : W → List ℕ) (read
   pub asked_in_order : PrintedIsRead → OneFormula → OneCommandLine → OneCut → EmptyPending
       → AskForValidRounds AreValidInOrder (IsRefutedInOrder 1 1) view two_rounds 2
   unfolding digits
-  asked_in_order = asked AreValidInOrder (IsRefutedInOrder 1 1)
-      (
-        alone adds_unit,
-        unit_in_order,
-        λ s path at.
-            let here = stream_at s path at in
-            subst (λ (t : ℕ). view.contents path ≡ Some (flat_map line_text (lines_by t (alone adds_unit)))) (sym here.0) here.1,
-      )
+  asked_in_order = asked AreValidInOrder (IsRefutedInOrder 1 1) (
+    alone line_of_round_1,
+    unit_in_order,
+    λ s path at.
+        let here = stream_at s path at in
+        subst (λ (t : ℕ). view.contents path ≡ Some (flat_map line_text (lines_by t (alone line_of_round_1)))) (sym here.0) here.1,
+  )
       (λ path bytes. (
         λ t. true,
-        alone adds_empty,
+        alone line_of_round_2,
         empty_in_order,
         (refl, tt),
         λ t at_path member at.
             let only = only_path (stream_path (codes "dir") 2 1) t at_path at in (
               [],
-              subst (λ (u : ℕ). its.contents (later_files path bytes) at_path ≡ Some (flat_map line_text (lines_by u (alone adds_empty)) ++ []))
+              subst
+                  (λ (u : ℕ). its.contents (later_files path bytes) at_path
+                  ≡ Some (flat_map line_text (lines_by u (alone line_of_round_2)) ++ []))
                   (sym only.0) (ap (its.contents (later_files path bytes)) only.1 ∙ next_at path bytes),
             ),
-        (0, adds_empty, omega arith, refl, refl),
+        (0, line_of_round_2, omega arith, refl, refl),
         omega arith,
       ))

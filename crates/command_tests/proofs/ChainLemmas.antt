@@ -1,5 +1,6 @@
 -- A run that saves a checkpoint, and a run that starts from it.
-use Rattle.std.proofs.Common.{◌≡◌, ◌∙◌, ◌<◌, ℕ, Bool, true, false, List, [], ◌∷◌, Option, None, Some, Result, Ok, Err, refl, sym, ap, subst, inl, inr, arith}
+use Rattle.std.proofs.Common.{◌≡◌, ◌∙◌, ◌<◌, ℕ, Bool, true, false, List, [], ◌∷◌, Option, None}
+use Rattle.std.proofs.Common.{Some, Result, Ok, Err, refl, sym, ap, subst, inl, inr, arith}
 use Rattle.std.specs.Prelude.{◌⊎◌, codes}
 use Rattle.std.specs.Io.KnownBytes.{Appends}
 use Rattle.clap.proofs.OnLiterals.{clap_on_literals}
@@ -27,6 +28,7 @@ use Rattle.command.specs.lemmas.OneRound.{creates_checkpoint, is_over}
 use Rattle.outcome_laws.specs.Outcomes.{layout_in}
 use Rattle.outcome_laws.specs.Refuting.{OutcomesRefute, saved_bytes, written_bytes}
 use Rattle.command_tests.specs.ExactFiles.{ExactValue}
+use Rattle.command_tests.proofs.AgreeLemmas.{path_is}
 use Rattle.command_tests.specs.Outcomes.{plain, saving}
 use Rattle.command_tests.proofs.ExactLemmas.{exact_view, saved_at}
 
@@ -118,9 +120,6 @@ record Names (given : CommandLine) (formula : Text) (checkpoint : Option Text) :
   pub checkpoint_is : checkpoint_of given.next ≡ checkpoint
   pub rounds : rounds_of given.next ≡ None
 
-path_is : (formula path : Text) → Some formula ≡ Some path → path ≡ formula
-path_is formula path is = cc
-
 saving_names : (given : CommandLine) → IsCommandLineOf saving given → Names given (codes "f") (Some (codes "new"))
 unfolding clap_on_literals
 saving_names given is = record {
@@ -166,8 +165,7 @@ module _ {R W : Type 0} (rest : R → List ℕ) (content : W → List ℕ) (read
       ap (λ (files : ExactValue). files.bytes)
       (is_over names.rounds round after ends.finished
       ∙ saved_at rest content reading has_failed round.opened (codes "new") saved.0 round.after saved.2) in
-      refute start.formula (saved.0 ∷ [])
-      (
+      refute start.formula (saved.0 ∷ []) (
         (
           start,
           3,

@@ -1,5 +1,7 @@
 -- What a round with the one line `5 2 0 1 2 0` leaves.
-use Rattle.std.proofs.Common.{◌≡◌, ◌∙◌, ◌++◌, ℕ, Bool, true, false, List, [], ◌∷◌, Option, None, Some, map, length, refl, sym, ap, subst, arith}
+use Rattle.std.proofs.Common.{◌≡◌, ◌∙◌, ◌++◌, ℕ, Bool, true, false, List, [], ◌∷◌}
+use Rattle.std.proofs.Common.{Option, None, Some, map, length, refl, sym, ap, subst, arith}
+use Rattle.std.proofs.Math.Bool.{and-false}
 use Rattle.std.proofs.lemmas.Bool.{or_left, or_right}
 use Rattle.std.proofs.lemmas.List.{append-nil}
 use Rattle.std.specs.Prelude.{◌&&◌, ◌==◌, not, codes, IfSome, IsSome, MatchOption}
@@ -30,22 +32,19 @@ use Rattle.stream_check.specs.Judging.{AreGood, EndsAfter, JudgesBlocks, at_bad_
 use Rattle.stream_check.specs.SequentialConsistency.{AreJudgedIn}
 use Rattle.stream_check.specs.StreamContext.{context_of, is_among}
 use Rattle.stream_check.specs.StreamParams.{StreamParams, is_shared, ownership_of}
-use Rattle.stream_check.specs.Streams.{InputObservation, JudgesStream, MatchesInput, RunParamsValue, Stream, observation_of, observations, stream_params}
+use Rattle.stream_check.specs.Streams.{InputObservation, JudgesStream, MatchesInput, RunParamsValue}
+use Rattle.stream_check.specs.Streams.{Stream, observation_of, observations, stream_params}
 use Rattle.run_outcome.specs.Saving.{is_wanted}
 use Rattle.command.specs.Rounds.{HaveEnded}
 use Rattle.test_support.specs.Worked.{unit}
-use Rattle.command_tests.specs.Outcomes.{adds_unit}
+use Rattle.command_tests.specs.Outcomes.{line_of_round_1}
 
 -- the events of a good addition of the unit clause: some fetches, and then it is published
 abbrev pub PublishesUnit : StreamParams → History → Type 0
 PublishesUnit params history = (fetches : History) × (history ≡ fetches ++ published_by params 5 unit ∷ [])
 
-and_false : (b : Bool) → (b && false) ≡ false
-and_false true = refl
-and_false false = refl
-
 -- the line's text, cut into lines
-pub unit_cut : EmptyPending → Cut (codes "5 2 0 1 2 0\n") (adds_unit ∷ []) []
+pub unit_cut : EmptyPending → Cut (codes "5 2 0 1 2 0\n") (line_of_round_1 ∷ []) []
 unfolding digits
 unit_cut pending = record {
   bytes = refl;
@@ -63,9 +62,9 @@ unit_cut pending = record {
 module _ (one_cut : OneCut) (pending : EmptyPending) where
   -- the line's text is cut in only one way
   one_line : (bytes : List ℕ) (lines : List StreamLine) (rest : List ℕ) → bytes ≡ codes "5 2 0 1 2 0\n" → Cut bytes lines rest
-      → lines ≡ adds_unit ∷ []
+      → lines ≡ line_of_round_1 ∷ []
   one_line bytes lines rest is cut =
-      sym (one_cut (codes "5 2 0 1 2 0\n") (adds_unit ∷ []) lines [] rest (unit_cut pending)
+      sym (one_cut (codes "5 2 0 1 2 0\n") (line_of_round_1 ∷ []) lines [] rest (unit_cut pending)
       (subst (λ (b : List ℕ). Cut b lines rest) is cut)).0
 
   -- after the last line of a stream that has ended, there are no events, and no whole line
@@ -84,7 +83,7 @@ module _ (one_cut : OneCut) (pending : EmptyPending) where
       (record { bytes = text; each = fits; last = begins.whole }, no_block)
 
   -- the events of the line
-  only_line : (params : StreamParams) (blocks : List History) → AreGood params [] (adds_unit ∷ []) blocks
+  only_line : (params : StreamParams) (blocks : List History) → AreGood params [] (line_of_round_1 ∷ []) blocks
       → PublishesUnit params (joined blocks)
   only_line params [] none = absurd none
   only_line params (block ∷ []) only = (only.0.0, append-nil block ∙ only.0.2)
@@ -111,7 +110,7 @@ module _ (one_cut : OneCut) (pending : EmptyPending) where
       subst (λ (ending : Ending). HasDroppedBy ending params bytes blocks report dropped) ended drops in
       let lines = one_line bytes by.lines by.rest is by.cut in
       by.are id ∙ ap (λ (ls : List StreamLine). (context_of params ls).is_dropped id) lines
-      ∙ and_false (is_shared (ownership_of params id))
+      ∙ and-false (is_shared (ownership_of params id))
 
 -- A stream that was read
 
@@ -151,7 +150,9 @@ whole_stream : (observation : InputObservation) (stream : Stream) (whole : List 
     → observation.entry ≡ Some whole → stream.end ≡ Some stream_ends.Ended → stream.bytes ≡ whole
 whole_stream observation stream whole matches entry end =
     let at : EndsSo stream_ends.Ended observation.left observation.has_failed =
-    subst (λ (its : Option StreamEnd). MatchOption its (observation.has_failed ≡ false) (λ e. EndsSo e observation.left observation.has_failed))
+    subst
+    (λ (its : Option StreamEnd). MatchOption its (observation.has_failed ≡ false)
+    (λ e. EndsSo e observation.left observation.has_failed))
     end matches.ends in
     all_read observation.left whole stream.bytes stream.unneeded at.0
     (matches.needed (subst (λ (its : Option StreamEnd). IsSome its) (sym end) refl))

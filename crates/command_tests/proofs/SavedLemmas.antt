@@ -1,5 +1,6 @@
 -- Which clauses a round saved, exactly.
-use Rattle.std.proofs.Common.{◌≡◌, ◌∙◌, ◌+◌, ℕ, List, ◌∷◌, Bool, true, Option, None, Some, Result, Ok, Err, length, sym, ap, subst, inl, inr}
+use Rattle.std.proofs.Common.{◌≡◌, ◌∙◌, ◌+◌, ℕ, List, ◌∷◌, Bool, true, Option, None}
+use Rattle.std.proofs.Common.{Some, Result, Ok, Err, length, sym, ap, subst, inl, inr}
 use Rattle.std.proofs.lemmas.Bool.{cond-true}
 use Rattle.std.specs.List.{AllByRecursion}
 use Rattle.lrup_model.specs.Clause.{Clause}
@@ -85,6 +86,7 @@ module _ (slots : State) (wants : ℕ → Bool) where
       absurd (let no : states.live clause ≡ states.absent = sym is ∙ answers in cc)
   takes_live s id clause (live stored) replies is wanted answers =
       let same : stored ≡ clause = let all : states.live stored ≡ states.live clause = sym answers ∙ is in cc in
-      cond-true (wants id) (record { id = id; clause = stored } ∷ wanted_of wants (id + 1) replies) (wanted_of wants (id + 1) replies) wanted
+      cond-true (wants id) (record { id = id; clause = stored } ∷ wanted_of wants (id + 1) replies)
+      (wanted_of wants (id + 1) replies) wanted
       ∙ ap (λ (c : Clause). record { id = id; clause = c } ∷ wanted_of wants (id + 1) replies) same
   takes_live s id clause retired replies is wanted answers = absurd (subst IsRetired is answers)

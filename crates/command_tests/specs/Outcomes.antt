@@ -29,11 +29,11 @@ abbrev pub five : Cnf
 five = record { vars = 2; clauses = first ∷ second ∷ third ∷ fourth ∷ unit ∷ [] }
 
 -- the line of round 1, which adds the unit clause, and that of round 2, which adds the empty clause
-abbrev pub adds_unit : StreamLine
-adds_unit = Addition 5 unit (1 ∷ 2 ∷ [])
+abbrev pub line_of_round_1 : StreamLine
+line_of_round_1 = Addition 5 unit (1 ∷ 2 ∷ [])
 
-abbrev pub adds_empty : StreamLine
-adds_empty = Addition 6 [] (5 ∷ 3 ∷ 4 ∷ [])
+abbrev pub line_of_round_2 : StreamLine
+line_of_round_2 = Addition 6 [] (5 ∷ 3 ∷ 4 ∷ [])
 
 -- These are the files: the formula has the four clauses, and each round's stream has its line. The
 -- line of round 2 cites the clause that was added in round 1.

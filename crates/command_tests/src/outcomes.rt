@@ -100,7 +100,9 @@ pub fn refute_in_two_runs<'a, T: Threads + Wait + Sync + Clock>(
     let mut out = Paper::new(alloc, 7, 0);
     let mut err = Paper::new(alloc, 7, 0);
     let words = ["--checkpoint", "new", "f", "s1"];
-    let status = command(threads, threads, alloc, &words, &mut files, &mut out, &mut err);
+    let status = command(
+        threads, threads, alloc, &words, &mut files, &mut out, &mut err,
+    );
     if status != 3 {
         return false;
     }
@@ -111,6 +113,14 @@ pub fn refute_in_two_runs<'a, T: Threads + Wait + Sync + Clock>(
     let mut others = ExactFiles::new(alloc, saved, second, None, false, 0);
     let mut out = Paper::new(alloc, 7, 0);
     let mut err = Paper::new(alloc, 7, 0);
-    let last = command(threads, threads, alloc, &["f", "s1"], &mut others, &mut out, &mut err);
+    let last = command(
+        threads,
+        threads,
+        alloc,
+        &["f", "s1"],
+        &mut others,
+        &mut out,
+        &mut err,
+    );
     last == 0
 }

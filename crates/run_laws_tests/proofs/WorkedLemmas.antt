@@ -15,7 +15,8 @@ use Rattle.lrup_model.specs.Layout.{Owns}
 use Rattle.lrup_model.specs.declared.layout.Owner.TheVariants as owners
 use Rattle.run_laws_tests.specs.Worked.{at_first, one_stream, two_streams, refutation, shared}
 use Rattle.test_support.specs.Worked.{four, first, second, third, fourth, unit}
-use Rattle.test_support.specs.lemmas.WorkedLemmas.{two_not_one, signs, unit_is_proper, swapped, unit_is_shown, empty_is_shown, third_is_unit, fourth_is_conflict}
+use Rattle.test_support.specs.lemmas.WorkedLemmas.{two_not_one, signs, unit_is_proper, swapped}
+use Rattle.test_support.specs.lemmas.WorkedLemmas.{unit_is_shown, empty_is_shown, third_is_unit, fourth_is_conflict}
 
 -- The hints in reverse order
 

@@ -31,7 +31,11 @@ static ROWS: [(&[&str], &str, &[&str]); 4] = [
     (&["--serial", "f", "s1"], "", &[ONE_ADDED]),
     (&["g", "s2", "--serial"], "", &[ONE_ADDED]),
     (&["f", "s1", OTHER], "6 d 1 0\n", &[ONE_ADDED, NOTHING]),
-    (&["--serial", "g", "s2", OTHER], "1 2", &[ONE_ADDED, MISSPELLED]),
+    (
+        &["--serial", "g", "s2", OTHER],
+        "1 2",
+        &[ONE_ADDED, MISSPELLED],
+    ),
 ];
 
 #[test]
