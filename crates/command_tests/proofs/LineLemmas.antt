@@ -1,10 +1,10 @@
 -- What a round with the one line `5 2 0 1 2 0` leaves.
-use Rattle.std.proofs.Common.{◌≡◌, ◌∙◌, ◌++◌, ℕ, Bool, true, false, List, [], ◌∷◌}
+use Rattle.std.proofs.Common.{◌≡◌, ◌∙◌, ◌++◌, ℕ, true, false, List, [], ◌∷◌}
 use Rattle.std.proofs.Common.{Option, None, Some, map, length, refl, sym, ap, subst, arith}
 use Rattle.std.proofs.Math.Bool.{and-false}
 use Rattle.std.proofs.lemmas.Bool.{or_left, or_right}
 use Rattle.std.proofs.lemmas.List.{append-nil}
-use Rattle.std.specs.Prelude.{◌&&◌, ◌==◌, not, codes, IfSome, IsSome, MatchOption}
+use Rattle.std.specs.Prelude.{◌==◌, not, codes, IfSome, IsSome, MatchOption}
 use Rattle.std.specs.Fmt.{digits}
 use Rattle.std.specs.Io.KnownBytes.{Consumes, IsAtEnd}
 use Rattle.std.specs.List.{AllByRecursion, AllZip, flat_map, list_any}
