@@ -264,7 +264,8 @@ def sum_of_sources(rt: str) -> str:
     found = hashlib.sha256(subprocess.run([rt, "version"], stdout=subprocess.PIPE).stdout)
     parts = [CRATES / name / part for name in sorted(ALL) for part in PARTS]
     files = sorted(file for part in parts for file in part.rglob("*") if file.is_file())
-    for file in [ROOT / "crates.txt", ROOT / "HANDLES", *files]:
+    found.update("".join(LINES[name] + "\n" for name in sorted(ALL)).encode())
+    for file in [ROOT / "HANDLES", *files]:
         text = file.read_bytes()
         found.update(f"{file.relative_to(ROOT)} {len(text)}\n".encode() + text)
     return found.hexdigest()

@@ -19,11 +19,11 @@ use outcome_laws::laws::status_0_has_a_command_line;
 
 /// Whether the program ends with status 0. If it does, the formula's text describes a formula that
 /// no assignment satisfies.
-fn refutes<T: Threads + Wait + Sync + Clock>(
+fn refutes<'a, T: Threads + Wait + Sync + Clock>(
     rt: &T,
     alloc: Global,
-    formula: &str,
-    stream: &str,
+    formula: &'a str,
+    stream: &'a str,
 ) -> bool
     // From `sound`.
     ensures sound { IsTrue result → (f : Cnf) × IsFormulaText formula.now f × IsUnsatisfiable f }
