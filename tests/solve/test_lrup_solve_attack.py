@@ -24,7 +24,7 @@ from typing import Dict, Iterator, List, NamedTuple, Set, Tuple
 
 import pytest
 
-from attacks import EXPECTED, OPTIONS, Attack, Records
+from attacks import EXPECTED, OPTIONS, PACKERS, Attack, Records
 from harness import COUNT, MINUTES, SEED, dimacs, feed, generated, until
 from hostile import ANY_SIGNAL, FOUND, PROVED, STATUSES, UNDER, UNKNOWN
 from limits import Limited, limited
@@ -116,10 +116,20 @@ def send(attack: Attack, group: Limited) -> List[Tuple[str, str]]:
     return [(number.name, name)]
 
 
-def has_ended(front: "subprocess.Popen[bytes]") -> bool:
-    """Continues a front that is stopped."""
-    with contextlib.suppress(ProcessLookupError):
-        os.kill(front.pid, signal.SIGCONT)
+def unpackers(attack: Attack) -> Set[str]:
+    """Names of the processes that may unpack a file for the front: before they become another
+    program, they have the front's name."""
+    names = {packer for ending, packer in PACKERS if any(attack.work.rglob("*" + ending))}
+    return names | {"lrup-solve"} if names else names
+
+
+def has_ended(front: "subprocess.Popen[bytes]", group: Limited, names: Set[str]) -> bool:
+    """Continues a front that is stopped, and stopped processes with these names: as for a pipe, the
+    front waits for what unpacks a file."""
+    stopped = [pid for pid, name in running(group).items() if name in names]
+    for pid in (front.pid, *stopped):
+        with contextlib.suppress(ProcessLookupError):
+            os.kill(pid, signal.SIGCONT)
     time.sleep(0.05)
     return front.poll() is not None
 
@@ -164,7 +174,8 @@ def run_of(attack: Attack) -> Ended:
             if front.poll() is None:
                 signals += send(attack, group)
         try:
-            until("the run ends", lambda: has_ended(front), LIMIT)
+            names = unpackers(attack)
+            until("the run ends", lambda: has_ended(front, group, names), LIMIT)
             if not may_leave(attack, signals):
                 until("all processes end", lambda: has_none_left(group), SOON)
         finally:
