@@ -39,8 +39,6 @@ const BAD: &str = "6 6\n";
 
 const DROPPED: &str = "1 added, 1 deleted, ended";
 
-const ONE_DELETED: &str = "0 added, 1 deleted, ended";
-
 /// The words, which name the files in the order in which they are opened; the streams, their lines
 /// in the report, the status, and the saved text.
 type Saved = (

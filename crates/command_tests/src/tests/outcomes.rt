@@ -30,7 +30,7 @@ const OTHER: &str = "dir/round-2.stream-1";
 static ROWS: [(&[&str], &str, &[&str]); 4] = [
     (&["--serial", "f", "s1"], "", &[ONE_ADDED]),
     (&["g", "s2", "--serial"], "", &[ONE_ADDED]),
-    (&["f", "s1", OTHER], "6 d 1 0\n", &[ONE_ADDED, NOTHING]),
+    (&["f", "s1", OTHER], "6 d 1 0\n", &[ONE_ADDED, ONE_DELETED]),
     (
         &["--serial", "g", "s2", OTHER],
         "1 2",
