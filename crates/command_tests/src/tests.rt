@@ -64,6 +64,7 @@ c id 5
 const NOTHING: &str = "0 added, 0 deleted, ended";
 
 const ONE_ADDED: &str = "1 added, 0 deleted, ended";
+
 const ONE_DELETED: &str = "0 added, 1 deleted, ended";
 
 const TWO_ADDED: &str = "2 added, 0 deleted, ended";

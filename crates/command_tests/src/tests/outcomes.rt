@@ -26,6 +26,8 @@ fn the_second_run_refutes(rt: HostRuntime) {
 
 const OTHER: &str = "dir/round-2.stream-1";
 
+const TRUNCATED: &str = "0 added, 0 deleted, bad line 1 (truncated)";
+
 /// The words, the stream at `OTHER`, and the report. Streams at other paths have `ADDS`.
 static ROWS: [(&[&str], &str, &[&str]); 4] = [
     (&["--serial", "f", "s1"], "", &[ONE_ADDED]),
@@ -34,7 +36,7 @@ static ROWS: [(&[&str], &str, &[&str]); 4] = [
     (
         &["--serial", "g", "s2", OTHER],
         "1 2",
-        &[ONE_ADDED, MISSPELLED],
+        &[ONE_ADDED, TRUNCATED],
     ),
 ];
 
