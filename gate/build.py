@@ -211,7 +211,7 @@ def print_proved(done: Set[str], name: str, began: float, used: int) -> None:
 
 
 def start(rt: str, name: str, jobs: int, nice: int) -> Proof:
-    """Starts to prove the crate. More than one job don't make a program faster."""
+    """Starts to prove the crate. More jobs than one don't make a program faster."""
     proof = Lane(name) if name in LIBRARIES else Proof(name)
     words = (["lib", "--jobs", str(jobs)] if name in LIBRARIES else
              ["run", "--jobs", "1", "--", *map(str, OF_CRATE[name].files)])

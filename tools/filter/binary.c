@@ -111,7 +111,7 @@ static uint64_t read_literals(Filter *filter, Input *input, bool *tautology) {
 
 // A step with a number that isn't a literal of the formula's variables: the filter stops, or no
 // clause is deleted.
-static void odd_step(Filter *filter, Input *input, int letter, Numbers *list) {
+static void foreign_step(Filter *filter, Input *input, int letter, Numbers *list) {
     filter_unmark(filter);
     numbers(input, list);
     decode(list, 0, list->length, DOUBLED);
@@ -126,7 +126,7 @@ static void drat_step(Filter *filter, Input *input, int letter, Numbers *list) {
     uint64_t last = read_literals(filter, input, &tautology);
     if (last != 0) {
         PUSH(list, (int64_t)last);
-        odd_step(filter, input, letter, list);
+        foreign_step(filter, input, letter, list);
     } else if (letter == 'd') {
         filter_delete_marked(filter);
     } else {
