@@ -1,5 +1,5 @@
 -- What has been made from the tokens, token by token, and the faults at the next token.
-use Rattle.std.proofs.Common.{◌≡◌, ◌+◌, ◌<◌, ◌≤◌, ℕ, ℤ, pos, nat_abs, List, [], ◌∷◌, ◌++◌, map, flat_map, length, Option, Some, None, refl}
+use Rattle.std.proofs.Common.{◌≡◌, ◌+◌, ◌<◌, ◌≤◌, ℕ, ℤ, pos, nat_abs, List, [], ◌∷◌, ◌++◌, map, flat_map, length, Option, Some, refl}
 use Rattle.std.proofs.Common.{sym, ap, ◌∙◌, inl, inr, ⊎_elim, subst, arith, length-append}
 use Rattle.std.proofs.lemmas.List.{append-nil, append_assoc, map-append, flat_map_more, nil_from_length}
 use Rattle.std.proofs.Math.Nat.{eq-zero-or-pos}
@@ -11,8 +11,8 @@ use Rattle.dimacs.specs.Numerals.{number_of}
 use Rattle.lrup_model.specs.lemmas.DistinctLemmas.{distinct-push_same, distinct-push_other}
 use Rattle.lrup_model.specs.lemmas.ListLemmas.{All-push}
 use Rattle.lrup_model.specs.lemmas.ClauseLemmas.{All-from_Has, All-Has}
-use Rattle.dimacs.specs.FormulaTokens.{IsWritten, TokensSpell, IsSetOf, AreSetsOf, AreClauses, ended}
-use Rattle.dimacs.specs.FormulaFault.{OccursAt, HasBadNumber, HasLargeVariable, HasMoreClauses, HasLongClause, EndsOpen, EndsEarly}
+use Rattle.dimacs.specs.FormulaTokens.{IsWritten, TokensSpell, IsSetOf, AreSetsOf, ended}
+use Rattle.dimacs.specs.FormulaFault.{OccursAt, HasMoreClauses, HasLongClause, EndsOpen, EndsEarly}
 use Rattle.dimacs.specs.internal.Places.{IsBuilt, AddsLiteral, AddsClause}
 use Rattle.dimacs.specs.declared.body.Builder.{Builder}
 use Rattle.dimacs.specs.declared.header.Header.{Header}
@@ -196,19 +196,7 @@ none_begun h none = nil_from_length h.built.begun (omega (arith, h.built.written
 
 closed_whole : {header : Header} {all left : List Token} {b : Builder} → (h : Reads header all left b) → left ≡ [] → b.written ≡ 0
     → TokensSpell header.vars header.clauses all h.built.closed []
-closed_whole {header = header} {all = all} h none no_literal =
-    subst (λ (x : List ℤ). TokensSpell header.vars header.clauses all h.built.closed x) (none_begun h no_literal) (read_whole h none)
-
-pub clauses_read : {header : Header} {all left : List Token} {b : Builder} (f : Cnf) → Reads header all left b → left ≡ []
-    → f ≡ b.formula → b.written ≡ 0 → b.left ≡ 0 → AreClauses f header.vars header.clauses all
-clauses_read f h none same no_literal no_clause =
-    rw same (record {
-      written = h.built.closed;
-      vars_are = h.built.vars_are;
-      count_is = omega (arith, h.left_is);
-      read = closed_whole h none no_literal;
-      sets = h.built.sets;
-    })
+closed_whole {header = header} {all = all} h none no_literal = rw (none_begun h no_literal) at (read_whole h none)
 
 pub ends_open : {header : Header} {all left : List Token} {b : Builder} → Reads header all left b → left ≡ [] → 0 < b.written
     → EndsOpen header.vars header.clauses all
@@ -234,28 +222,6 @@ occurs {later = later} h next = record {
   after = later;
   whole = h.split ∙ ap (λ (x : List Token). h.before ++ x) next;
   read = h.built.read;
-}
-
-pub bad_number : {header : Header} {all left later : List Token} {b : Builder} {t : Token} → Reads header all left b → left ≡ t ∷ later
-    → number_of t.text ≡ None → HasBadNumber t.line header.vars header.clauses all
-bad_number {t = t} h next none = record {
-  text = t.text;
-  closed = h.built.closed;
-  begun = h.built.begun;
-  place = occurs h next;
-  fault = none;
-}
-
-pub large_variable : {header : Header} {all left later : List Token} {b : Builder} {t : Token} {z : ℤ} → Reads header all left b
-    → left ≡ t ∷ later → number_of t.text ≡ Some z → header.vars < nat_abs z → HasLargeVariable t.line header.vars header.clauses all
-large_variable {t = t} {z = z} h next is large = record {
-  text = t.text;
-  number = z;
-  closed = h.built.closed;
-  begun = h.built.begun;
-  place = occurs h next;
-  spelled = is;
-  fault = large;
 }
 
 pub more_clauses : {header : Header} {all left later : List Token} {b : Builder} {t : Token} {z : ℤ} → Reads header all left b

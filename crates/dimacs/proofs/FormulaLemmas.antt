@@ -54,8 +54,7 @@ same_clauses f g vars count all h k =
     let same = one_writing vars h.written k.written h.read.closed_within k.read.closed_within
     (sym (append-nil (flat_map ended h.written)) ∙ numbers ∙ append-nil (flat_map ended k.written)) in
     let vars : f.vars ≡ g.vars = h.vars_are ∙ sym k.vars_are in
-    let clauses : f.clauses ≡ g.clauses =
-    same_sets k.written f.clauses g.clauses (subst (λ (w : List (List ℤ)). AreSetsOf w f.clauses) same h.sets) k.sets in
+    let clauses : f.clauses ≡ g.clauses = same_sets k.written f.clauses g.clauses (rw same at h.sets) k.sets in
     ap (λ (n : ℕ). record { vars = n; clauses = f.clauses }) vars
     ∙ ap (λ (cs : List Clause). record { vars = g.vars; clauses = cs }) clauses
 

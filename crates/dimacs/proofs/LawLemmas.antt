@@ -7,7 +7,7 @@ use Rattle.lrup_model.specs.Literal.{IsLiteral, max_variable}
 use Rattle.lrup_model.specs.Formula.{Cnf, max_clauses, max_clause_literals}
 use Rattle.dimacs.specs.declared.fault.DimacsFault.{DimacsFault}
 use Rattle.dimacs.specs.declared.fault.DimacsFault.TheVariants.{NoHeader, BadHeader, BadNumber, VariableRange, OpenClause, TooFew, TooMany}
-use Rattle.dimacs.specs.declared.fault.DimacsFault.TheVariants.{Limit, Memory}
+use Rattle.dimacs.specs.declared.fault.DimacsFault.TheVariants.{Limit}
 use Rattle.dimacs.specs.Lines.{Line, Token, lines_of, all_tokens}
 use Rattle.dimacs.specs.Numerals.{number_of}
 use Rattle.dimacs.specs.FormulaTokens.{IsHeader, InBodyOf, IsWritten, TokensSpell, AreClauses, ended}
@@ -175,26 +175,16 @@ no_body_fault Limit f vars count all text h =
     let s = good.spelled in
     let same : good.number ≡ h.number = cc in
     omega (arith, good.short (omega (arith, ap nat_abs same, h.within.0)), h.fault)
-no_body_fault NoHeader f vars count all text h = h
-no_body_fault BadHeader f vars count all text h = h
-no_body_fault Memory f vars count all text h = h
+no_body_fault _ f vars count all text h = h
 
 pub one_header : (tokens : List (List ℕ)) (vars count vars' count' : ℕ) → IsHeader tokens vars count → IsHeader tokens vars' count'
     → (vars ≡ vars') × (count ≡ count')
-one_header [] vars count vars' count' h k = absurd h
-one_header (p ∷ []) vars count vars' count' h k = absurd h
-one_header (p ∷ q ∷ []) vars count vars' count' h k = absurd h
-one_header (p ∷ q ∷ v ∷ []) vars count vars' count' h k = absurd h
 one_header (p ∷ q ∷ v ∷ c ∷ []) vars count vars' count' h k = (sym h.2.1 ∙ k.2.1, sym h.3.1 ∙ k.3.1)
-one_header (p ∷ q ∷ v ∷ c ∷ x ∷ tokens) vars count vars' count' h k = absurd h
+one_header _ vars count vars' count' h k = absurd h
 
 pub begins : (tokens : List (List ℕ)) (vars count : ℕ) → IsHeader tokens vars count → BeginsHeader tokens
-begins [] vars count h = absurd h
-begins (p ∷ []) vars count h = absurd h
-begins (p ∷ q ∷ []) vars count h = absurd h
-begins (p ∷ q ∷ v ∷ []) vars count h = absurd h
 begins (p ∷ q ∷ v ∷ c ∷ []) vars count h = h.0
-begins (p ∷ q ∷ v ∷ c ∷ x ∷ tokens) vars count h = absurd h
+begins _ vars count h = absurd h
 
 -- a header that is spelled right and within the limits has no fault
 pub no_header_fault : (fault : DimacsFault) (header : Line) (lines : List Line) (vars count : ℕ) → IsHeader header.tokens vars count
@@ -204,12 +194,7 @@ no_header_fault BadHeader header lines vars count spelled few_variables few_clau
 no_header_fault Limit header lines vars count spelled few_variables few_clauses h =
     let same = one_header header.tokens vars count h.vars h.count spelled h.spelled in
     ⊎_elim (λ many. omega (arith, many, same.0)) (λ many. omega (arith, many, same.1)) h.above
-no_header_fault (BadNumber line) header lines vars count spelled few_variables few_clauses h = h
-no_header_fault (VariableRange line) header lines vars count spelled few_variables few_clauses h = h
-no_header_fault OpenClause header lines vars count spelled few_variables few_clauses h = h
-no_header_fault TooFew header lines vars count spelled few_variables few_clauses h = h
-no_header_fault (TooMany line) header lines vars count spelled few_variables few_clauses h = h
-no_header_fault Memory header lines vars count spelled few_variables few_clauses h = h
+no_header_fault _ header lines vars count spelled few_variables few_clauses h = h
 
 in_lines : (lines : List Line) (f : Cnf) (fault : DimacsFault) → InBodyOf lines (AreClauses f)
     → IsHeaderFault fault lines ⊎ InBodyOf lines (IsBodyFault fault) → ⊥

@@ -1,6 +1,6 @@
 -- Clauses as sets, and the marks of their literals.
 use Rattle.std.proofs.Common.{◌≡◌, ◌↔◌, ◌⊎◌, ◌*◌, ◌/◌, ◌%◌, ◌^◌, ◌<◌, ℕ, ℤ, true, List, [], ◌∷◌, ◌++◌, length, get_or, set, zero, suc, refl}
-use Rattle.std.proofs.Common.{sym, ap, ◌∙◌, inl, inr, ⊎_elim, subst, arith, length-append}
+use Rattle.std.proofs.Common.{sym, ap, ◌∙◌, inl, inr, ⊎_elim, arith, length-append}
 use Rattle.std.proofs.lemmas.Bool.{eqb-true, cases_eq}
 use Rattle.std.proofs.lemmas.List.{get_or-set_same, get_or-set_other}
 use Rattle.lrup_model.specs.Literal.{code_of}
@@ -133,32 +133,11 @@ AddsLiteral-push c l each other = record {
   order = inr (other, refl);
 }
 
-has_along : (c : List ℤ) (l m : ℤ) → l ≡ m → Has c l → Has c m
-has_along c l m e h = let P : ℤ → Type 0 = λ z. Has c z in subst P e h
-
-pub AddsLiteral-none : (c : List ℤ) (l : ℤ) → EachOnce c → Has c l → AddsLiteral c c l
-AddsLiteral-none c l each has = record {
-  members = λ m. (λ h. inl h, λ h. ⊎_elim (λ old. old) (λ e. has_along c l m e has) h);
-  each_once = each;
-  size = omega arith;
-  order = inl (has, refl);
-}
-
 -- ## clearing the marks
 
 -- only the literals that are left are marked
 abbrev pub LeavesMarks : List ℕ → List ℤ → Type 0
 LeavesMarks words left = (l : ℤ) → IsBitSet words (code_of l) → Has left l
-
-pub LeavesMarks-none : (words : List ℕ) → LeavesMarks words [] → MarksAre words []
-LeavesMarks-none words h = λ l. (h l, λ none. absurd none)
-
-pub LeavesMarks-more : (old new : List ℕ) (later : List ℤ) (l : ℤ) (p : ℕ) → p ≡ code_of l
-    → ((q : ℕ) → IsBitSet new q ↔ (IsBitSet old q × (q ≡ p → ⊥))) → LeavesMarks old (l ∷ later) → LeavesMarks new later
-LeavesMarks-more old new later l p is cleared h =
-    λ m yes.
-    let still = (cleared (code_of m)).0 yes in
-    ⊎_elim (λ e. absurd (still.1 (ap code_of (sym e) ∙ sym is))) (λ has. has) (h m still.0)
 
 pub Has-at : (c : List ℤ) (i : ℕ) (d : ℤ) → i < length c → Has c (get_or c i d)
 Has-at [] i d lt = absurd (omega arith)

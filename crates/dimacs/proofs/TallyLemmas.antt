@@ -41,13 +41,7 @@ goes_on n k l [] = record { further = inr (refl, omega arith); longer = omega ar
 goes_on n k l (pos zero ∷ zs) =
     let next = goes_on (n + 1) 0 l zs in
     record { further = inl (⊎_elim (λ more. omega (arith, more)) (λ same. omega (arith, same.0)) next.further); longer = next.longer }
-goes_on n k l (pos (suc m) ∷ zs) =
-    let next = goes_on n (k + 1) (max l (k + 1)) zs in
-    record {
-      further = ⊎_elim (λ more. inl more) (λ same. inr (same.0, omega (arith, same.1))) next.further;
-      longer = omega (arith, next.longer);
-    }
-goes_on n k l (negsuc m ∷ zs) =
+goes_on n k l (_ ∷ zs) =
     let next = goes_on n (k + 1) (max l (k + 1)) zs in
     record {
       further = ⊎_elim (λ more. inl more) (λ same. inr (same.0, omega (arith, same.1))) next.further;
@@ -59,9 +53,7 @@ pub further_by_one : (n k l : ℕ) (z : ℤ) (zs : List ℤ) → let t = tally n
     (n < t.ended_clauses) ⊎ ((t.ended_clauses ≡ n) × (k < t.begun))
 further_by_one n k l (pos zero) zs =
     inl (⊎_elim (λ more. omega (arith, more)) (λ same. omega (arith, same.0)) (goes_on (n + 1) 0 l zs).further)
-further_by_one n k l (pos (suc m)) zs =
-    ⊎_elim (λ more. inl more) (λ same. inr (same.0, omega (arith, same.1))) (goes_on n (k + 1) (max l (k + 1)) zs).further
-further_by_one n k l (negsuc m) zs =
+further_by_one n k l _ zs =
     ⊎_elim (λ more. inl more) (λ same. inr (same.0, omega (arith, same.1))) (goes_on n (k + 1) (max l (k + 1)) zs).further
 
 -- one more literal in a clause of k literals makes the largest number of literals exceed k
@@ -80,10 +72,7 @@ tally_literals : (vars n k l : ℕ) (c : List ℤ) → AllByRecursion (IsLiteral
     → k + length c ≤ max_clause_literals → Comes (tally n k l c) n (k + length c)
 tally_literals vars n k l [] all few short = record { clauses_are = refl; literals_are = omega arith; short = few }
 tally_literals vars n k l (pos zero ∷ c) all few short = absurd (omega (arith, all.0.0))
-tally_literals vars n k l (pos (suc m) ∷ c) all few short =
-    let next = tally_literals vars n (k + 1) (max l (k + 1)) c all.1 (omega arith) (omega arith) in
-    record { clauses_are = next.clauses_are; literals_are = omega (arith, next.literals_are); short = next.short }
-tally_literals vars n k l (negsuc m ∷ c) all few short =
+tally_literals vars n k l (_ ∷ c) all few short =
     let next = tally_literals vars n (k + 1) (max l (k + 1)) c all.1 (omega arith) (omega arith) in
     record { clauses_are = next.clauses_are; literals_are = omega (arith, next.literals_are); short = next.short }
 

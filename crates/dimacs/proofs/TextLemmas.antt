@@ -217,22 +217,17 @@ all_texts (l ∷ lines) =
 
 header_tokens : (tokens : List (List ℕ)) (vars count : ℕ) → vars < 2 ^ 64 → count < 2 ^ 64 → IsHeader tokens vars count
     → tokens ≡ codes "p" ∷ codes "cnf" ∷ decimal vars ∷ decimal count ∷ []
-header_tokens [] vars count v c h = absurd h
-header_tokens (p ∷ []) vars count v c h = absurd h
-header_tokens (p ∷ cnf ∷ []) vars count v c h = absurd h
-header_tokens (p ∷ cnf ∷ x ∷ []) vars count v c h = absurd h
 header_tokens (p ∷ cnf ∷ x ∷ y ∷ []) vars count v c h =
     let e = h.0 in
     let f = h.1 in
     let g = count_text x vars v h.2 in
     let k = count_text y count c h.3 in
     cc
-header_tokens (p ∷ cnf ∷ x ∷ y ∷ z ∷ more) vars count v c h = absurd h
+header_tokens _ vars count v c h = absurd h
 
 tokens_header : (tokens : List (List ℕ)) (vars count : ℕ) → vars < 2 ^ 64 → count < 2 ^ 64
     → tokens ≡ codes "p" ∷ codes "cnf" ∷ decimal vars ∷ decimal count ∷ [] → IsHeader tokens vars count
-tokens_header tokens vars count v c e =
-    subst (λ (x : List (List ℕ)). IsHeader x vars count) (sym e) (refl, refl, text_count vars v, text_count count c)
+tokens_header tokens vars count v c e = rw e (refl, refl, text_count vars v, text_count count c)
 
 -- ## the clauses
 

@@ -6,7 +6,7 @@ use Rattle.lrup_model.specs.Literal.{IsLiteral}
 use Rattle.lrup_model.specs.Formula.{max_clause_literals}
 use Rattle.dimacs.specs.declared.fault.DimacsFault.{DimacsFault}
 use Rattle.dimacs.specs.declared.fault.DimacsFault.TheVariants.{NoHeader, BadHeader, BadNumber, VariableRange, OpenClause, TooFew, TooMany}
-use Rattle.dimacs.specs.declared.fault.DimacsFault.TheVariants.{Limit, Memory}
+use Rattle.dimacs.specs.declared.fault.DimacsFault.TheVariants.{Limit}
 use Rattle.dimacs.specs.Lines.{Line, Token, lines_of, all_tokens}
 use Rattle.dimacs.specs.Numerals.{number_of}
 use Rattle.dimacs.specs.FormulaTokens.{InBodyOf, TokensSpell}
@@ -102,9 +102,7 @@ of_body Limit vars count all h =
       place = h.place;
       is = inr (inr (inr (h.number, refl, h.spelled, h.within, h.fault)));
     })
-of_body NoHeader vars count all h = absurd h
-of_body BadHeader vars count all h = absurd h
-of_body Memory vars count all h = absurd h
+of_body _ vars count all h = absurd h
 
 -- two indices of a list are equal, or one comes before the other
 two_places : (xs : List Token) (x : Token) (more : List Token) (ys : List Token) (y : Token) (rest : List Token) → xs ++ x ∷ more
@@ -179,12 +177,7 @@ header_cases : (fault : DimacsFault) (lines : List Line) → IsHeaderFault fault
 header_cases NoHeader lines h = inl (refl, h)
 header_cases BadHeader lines h = inr (inl (refl, h))
 header_cases Limit lines h = inr (inr (refl, h))
-header_cases (BadNumber line) lines h = absurd h
-header_cases (VariableRange line) lines h = absurd h
-header_cases OpenClause lines h = absurd h
-header_cases TooFew lines h = absurd h
-header_cases (TooMany line) lines h = absurd h
-header_cases Memory lines h = absurd h
+header_cases _ lines h = absurd h
 
 none_or_bad : (lines : List Line) → HasNoHeader lines → HasBadHeader lines → ⊥
 none_or_bad [] none bad = bad

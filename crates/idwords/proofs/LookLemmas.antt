@@ -139,11 +139,10 @@ looks v seat id identity more words views kept here small =
     let w : ThreadState = advanced v more e v.draft in (
       w,
       log ++ e ∷ [],
-      subst (λ (ws : List ℕ). Keeps f p (log ++ e ∷ []) ws (set views seat (w ∷ []))) (sym same) done.0,
+      rw same done.0,
       record {
-        shows = subst (λ (xs : List Spelling). ShowsStored (stored_in xs id) (slice_index words id)) (sym there) known.0;
-        calls = subst (λ (r : Reply). Calls v.view w.view (events.fetch (thread_stream v) id r))
-            (sym (ap (λ (xs : List Spelling). reply_in (stored_in xs id) (slice_index words id)) there ∙ known.1)) done.1;
+        shows = rw there known.0;
+        calls = rw (ap (λ (xs : List Spelling). reply_in (stored_in xs id) (slice_index words id)) there ∙ known.1) done.1;
         top = done.2;
         draft = refl;
       },

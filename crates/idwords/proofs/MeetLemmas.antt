@@ -164,8 +164,7 @@ learns_own v rest more words views kept agrees =
     let s = thread_stream v in
     let all = v.view.seen ++ (rest ++ more) in
     let cut : v.view.seen ++ rest ++ more ≡ all = append_assoc v.view.seen rest more in
-    let legal : IsLegal f p (v.view.seen ++ rest) =
-    IsLegal-front f p (v.view.seen ++ rest) more (subst (λ (h : History). IsLegal f p h) (sym cut) kept.legal) in
+    let legal : IsLegal f p (v.view.seen ++ rest) = IsLegal-front f p (v.view.seen ++ rest) more (rw cut kept.legal) in
     let mine : own (v.view.seen ++ rest) s ≡ v.view.mine = own_all v.view.seen rest more v.view.mine s agrees.seen agrees.mine in
     let keeps_on : KeepsSpelt (stored_in v.view.spelt) (stored_in (spelling_of f p (v.view.seen ++ rest))) = λ j text there.
     keeps_spelt f p v.view.seen rest j text (ap (λ (xs : List Spelling). stored_in xs j) (sym agrees.spelt) ∙ there) in
@@ -201,13 +200,8 @@ learns_cut : (f : Cnf) (p : LayoutValue) (log : History) (words : List ℕ) (vie
 learns_cut f p log words views v h more rest kept agrees cut same =
     let g = v.view.caller.formula in
     let q = v.view.caller.layout in
-    let kept_formula : Keeps g p log words views = subst (λ (x : Cnf). Keeps x p log words views) (sym agrees.formula) kept in
-    let kept_layout : Keeps g q log words views = subst (λ (x : LayoutValue). Keeps g x log words views) (sym agrees.layout) kept_formula in
-    let kept_log : Keeps g q (v.view.seen ++ (rest ++ more)) words views =
-    subst (λ (x : History). Keeps g q x words views) (sym cut) kept_layout in
-    let st_formula : Agrees g p log words v = subst (λ (x : Cnf). Agrees x p log words v) (sym agrees.formula) agrees in
-    let st_layout : Agrees g q log words v = subst (λ (x : LayoutValue). Agrees g x log words v) (sym agrees.layout) st_formula in
-    let st_log : Agrees g q (v.view.seen ++ (rest ++ more)) words v = subst (λ (x : History). Agrees g q x words v) (sym cut) st_layout in
+    let kept_log : Keeps g q (v.view.seen ++ (rest ++ more)) words views = rw (cut, agrees.layout, agrees.formula) kept in
+    let st_log : Agrees g q (v.view.seen ++ (rest ++ more)) words v = rw (← agrees.formula, ← agrees.layout, ← cut) at agrees in
     let own = learns_own v rest more words views kept_log st_log in
     let w : ThreadState = informed v rest in
     let at_log : Learns g q log words v w (v.view.seen ++ rest) =

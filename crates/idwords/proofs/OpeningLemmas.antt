@@ -191,10 +191,9 @@ lies_clauses pre back id start (c ∷ cs) j stored len here =
       start = start;
       literals = c;
     }) (stored_in (clauses_spelling (id + 1) (start + words_for (length c)) cs) j) stored here) [
-      | inl same ↦ subst (λ (k : StoredClause). LiesAt (pre ++ (packed c ++ literal_words cs ++ back)) k.start k.literals) same
-          (subst (λ (ws : List ℕ). LiesAt ws start c) whole (agree_front pre tail (packed c) start len))
-      | inr later ↦ subst (λ (ws : List ℕ). LiesAt ws stored.start stored.literals) (append_assoc pre (packed c) tail ∙ whole)
-          (lies_clauses (pre ++ packed c) back (id + 1) (start + words_for (length c)) cs j stored
+      | inl same ↦ rw (← same, ← whole) (agree_front pre tail (packed c) start len)
+      | inr later ↦ rw (append_assoc pre (packed c) tail ∙ whole)
+          at (lies_clauses (pre ++ packed c) back (id + 1) (start + words_for (length c)) cs j stored
           (omega (arith, length-append pre (packed c), length-packed c)) later)
     ]
 
@@ -335,17 +334,16 @@ first_next p i =
 pub dealt : {S : Type 0} (f : Cnf) (p : LayoutValue) (s : ℕ) (table : TableId) (me : Me S (List ThreadState)) (top room : ℕ) → IsPlan f p
     → IsStream p s → table.words ≡ row_words p
     → me ≡ (opening_thread f p s ∷ [], []) → top ≡ first_place p s → room ≡ p.room → IsSeated {S = S} table me top 0 room
-dealt {S} f p s table me top room plan stream words whole at all =
-    subst (λ (m : Me S (List ThreadState)). IsSeated {S = S} table m top 0 room) (sym whole) (record {
-      one = refl;
-      fair = opening_fair f p s plan stream;
-      words = words;
-      top_is = omega arith;
-      draft_is = refl;
-      top_kept = at;
-      room_kept = omega arith;
-      within = omega arith;
-    })
+dealt {S} f p s table me top room plan stream words whole at all = rw whole (record {
+  one = refl;
+  fair = opening_fair f p s plan stream;
+  words = words;
+  top_is = omega arith;
+  draft_is = refl;
+  top_kept = at;
+  room_kept = omega arith;
+  within = omega arith;
+})
 
 pub get_old : {X : Type 0} (xs : List X) (x a : X) (k : ℕ) → slice_get xs k ≡ Some a → slice_get (xs ++ x ∷ []) k ≡ Some a
 get_old [] x a k here = absurd (cc)

@@ -20,7 +20,7 @@ use Rattle.idwords.specs.Words.{words_for, pair_of, half_of}
 use Rattle.idwords.specs.internal.RowWords.{literal_word}
 use Rattle.idwords.specs.Spelling.{first_place, words_spent, top_after}
 use Rattle.idwords.specs.Seats.{ThreadState}
-use Rattle.idwords.specs.internal.Rule.{thread_stream, Keeps, Agrees}
+use Rattle.idwords.specs.internal.Rule.{thread_stream, Agrees}
 use Rattle.idwords.specs.internal.Steps.{Reads, Writes}
 use Rattle.idwords.proofs.SpellingLemmas.{words_spent-own, words_within, IsLodged, lodged, keeps_spelt}
 use Rattle.idwords.proofs.WordLemmas.{HasCode, some_literals, lies_get, lies-pair, lies-set, word_injective}
@@ -85,8 +85,7 @@ reads v seat place more words views kept here small =
     let same_views : set views seat (v ∷ []) ≡ views = set_again views seat (v ∷ []) here in (
       v,
       log,
-      subst (λ (ws : List ℕ). Keeps f p log ws (set views seat (v ∷ []))) (sym same_words)
-          (subst (λ (us : List (List ThreadState)). Keeps f p log words us) (sym same_views) kept),
+      rw (same_words, same_views) kept,
       record {
         same = refl;
         text = λ id k text l there at here_is.

@@ -1,5 +1,5 @@
 -- Lemmas about a retire: its load, and its compare-exchange, which always succeeds.
-use Rattle.std.proofs.Common.{◌≡◌, ◌≢◌, ℕ, ◌+◌, eqb, List, [], ◌∷◌, ◌++◌, set, slice_index, slice_set, Option, refl, sym, ap, subst, ◌∙◌}
+use Rattle.std.proofs.Common.{◌≡◌, ℕ, ◌+◌, eqb, List, [], ◌∷◌, ◌++◌, set, slice_index, slice_set, Option, refl, sym, ap, subst, ◌∙◌}
 use Rattle.std.proofs.Common.{inl, inr, arith, append-nil, eq-eqb}
 use prog.Atomic.{either}
 use Rattle.std.proofs.lemmas.Bool.{cases_eq}
@@ -7,7 +7,7 @@ use Rattle.std.proofs.lemmas.List.{set-get_or}
 use Rattle.atomic_table.proofs.Lists.{set_again}
 use Rattle.lrup_model.specs.Layout.{Owns}
 use Rattle.lrup_model.specs.Event as events
-use Rattle.lrup_model.specs.Event.{Event, History}
+use Rattle.lrup_model.specs.Event.{Event}
 use Rattle.lrup_model.specs.State.{Slot, retire_slot, after, state, IsLive}
 use Rattle.lrup_model.specs.CallerView.{StoredClause}
 use Rattle.lrup_model.specs.Pass.{Spelling, stored_in, IsSpelt}
@@ -44,27 +44,25 @@ finds v seat id owns more words views kept here small =
           let same_views : set views seat (v ∷ []) ≡ views = set_again views seat (v ∷ []) here in (
             v,
             log,
-            subst (λ (ws : List ℕ). Keeps f p log ws (set views seat (v ∷ []))) (sym same_words)
-                (subst (λ (us : List (List ThreadState)). Keeps f p log words us) (sym same_views) kept),
+            rw (same_words, same_views) kept,
             record { own = word; live = λ is. refl; none = λ other. absurd (other one) },
           )
       | inr other ↦
           let e : Event = events.retire (thread_stream v) id retiring.NotLive in
           let none : ¬ IsLive (state f log id) =
-          other_word (state f log id) (stored_in (spelling_of f p log) id) (all.slots id)
-          (subst (λ (n : ℕ). word_state n ≢ 1) log_word other) in
+          other_word (state f log id) (stored_in (spelling_of f p log) id) (all.slots id) (rw log_word at other) in
           let plain : IsPlain f p log e = record { state = λ j. refl; spelling = refl; size = refl } in
           let done = plain_step v more words views seat e v.draft kept here refl none owns plain agrees.draft (omega arith) in
           let w : ThreadState = advanced v more e v.draft in (
             w,
             log ++ e ∷ [],
-            subst (λ (ws : List ℕ). Keeps f p (log ++ e ∷ []) ws (set views seat (w ∷ []))) (sym same_words) done.0,
+            rw same_words done.0,
             record {
               own = word;
               live = λ one. absurd (other one);
               none = λ is. record {
                 calls = done.1;
-                none = subst (λ (x : Slot). ¬ IsLive x) slot none;
+                none = rw slot at none;
                 top = done.2;
                 draft = refl;
               };

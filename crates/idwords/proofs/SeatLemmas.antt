@@ -41,8 +41,7 @@ module _ {S : Type 0} where
   asks_thread f p slots id i g known then table row me v one same within own tell = (
     same,
     within,
-    subst (λ (m : Me S (List ThreadState)). Allows {S = S} (HoldsRowInvariant f p) slots id m i g (then m)) (sym one)
-        (allows f p slots id v i g (known v) (then (v ∷ [], [])) own (tell v)),
+    rw one (allows f p slots id v i g (known v) (then (v ∷ [], [])) own (tell v)),
   )
 
   pub asks : (f : Cnf) (p : LayoutValue) (slots id i : ℕ) (g : ℕ → ℕ) (known : ThreadState → ℕ → ThreadState → Type 0)

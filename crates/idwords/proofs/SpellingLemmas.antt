@@ -142,7 +142,6 @@ stored_beside xs x j (Some k) here other = stored-append_some xs (x ∷ []) j k 
 
 spells_event : (p : LayoutValue) (b : History) (m : State) (xs : List Spelling) (e : Event) → SpellsState m xs → Answers m e
     → SpellsState (after m e) (xs ++ event_spelling p b e)
-spells_event p b m xs (events.fetch s id r) spells answers = same_list m xs spells
 spells_event p b m xs (events.publish s id c publishing.Done) spells answers =
     let x : Spelling = spelling id (top_after p s b) c in
     let none : stored_in xs id ≡ None = spells_absent (m id) (stored_in xs id) answers (spells.slots id) in
@@ -151,18 +150,15 @@ spells_event p b m xs (events.publish s id c publishing.Done) spells answers =
       slots = λ j. elim (cases_eq j id) [
         | inl same ↦
             let there : stored_in (xs ++ x ∷ []) j ≡ Some x.stored =
-            stored-append_none xs (x ∷ []) j (subst (λ (k : ℕ). stored_in xs k ≡ None) (sym same) none) ∙ stored_one x j same in
+            stored-append_none xs (x ∷ []) j (rw same none) ∙ stored_one x j same in
             let slot : put m id (live c) j ≡ live c = put-same m id (live c) j same in
-            subst (λ (y : Slot). Spells y (stored_in (xs ++ x ∷ []) j)) (sym slot)
-            (subst (λ (o : Option StoredClause). Spells (live c) o) (sym there) refl)
+            rw (slot, there) refl
         | inr other ↦
             let slot : put m id (live c) j ≡ m j = put-other m id (live c) j other in
             let there : stored_in (xs ++ x ∷ []) j ≡ stored_in xs j = stored_beside xs x j (stored_in xs j) refl other in
-            subst (λ (y : Slot). Spells y (stored_in (xs ++ x ∷ []) j)) (sym slot)
-            (subst (λ (o : Option StoredClause). Spells (m j) o) (sym there) (spells.slots j))
+            rw (slot, there) (spells.slots j)
       ];
     }
-spells_event p b m xs (events.publish s id c publishing.Taken) spells answers = same_list m xs spells
 spells_event p b m xs (events.retire s id retiring.Done) spells answers =
     same_list (put m id (retire_slot (m id))) xs (record {
       once = spells.once;
@@ -174,7 +170,7 @@ spells_event p b m xs (events.retire s id retiring.Done) spells answers =
         | inr other ↦ subst (λ (y : Slot). Spells y (stored_in xs j)) (sym (put-other m id (retire_slot (m id)) j other)) (spells.slots j)
       ];
     })
-spells_event p b m xs (events.retire s id retiring.NotLive) spells answers = same_list m xs spells
+spells_event p b m xs _ spells answers = same_list m xs spells
 
 spells_run : (f : Cnf) (p : LayoutValue) (b : History) (m : State) (xs : List Spelling) (h : History) → SpellsState m xs → LegalFrom f p m h
     → SpellsState (run m h) (xs ++ added_spelling p b h)
@@ -182,8 +178,7 @@ spells_run f p b m xs [] spells legal = same_list m xs spells
 spells_run f p b m xs (e ∷ h) spells legal =
     let one : SpellsState (after m e) (xs ++ event_spelling p b e) = spells_event p b m xs e spells legal.0 in
     let all = spells_run f p (b ++ e ∷ []) (after m e) (xs ++ event_spelling p b e) h one legal.2 in
-    subst (λ (ys : List Spelling). SpellsState (run (after m e) h) ys)
-    (append_assoc xs (event_spelling p b e) (added_spelling p (b ++ e ∷ []) h)) all
+    rw (append_assoc xs (event_spelling p b e) (added_spelling p (b ++ e ∷ []) h)) at all
 
 -- The formula's clauses
 
@@ -231,19 +226,16 @@ spells_opening f start = record {
     | inl positive ↦ elim (cases_lt (length f.clauses) id) [
       | inl above ↦
           let none : stored_in (clauses_spelling 1 start f.clauses) id ≡ None = clauses_above 1 start f.clauses id (omega arith) in
-          subst (λ (y : Slot). Spells y (stored_in (clauses_spelling 1 start f.clauses) id)) (sym (opening-above f id above))
-          (subst (λ (o : Option StoredClause). Spells absent o) (sym none) tt)
+          rw (opening-above f id above, none) tt
       | inr within ↦
           let at = clauses_at 1 start f.clauses (id - 1) (omega arith) in
           let here : stored_in (clauses_spelling 1 start f.clauses) id ≡ Some (record { start = at.0; literals = clause_at f id }) =
           ap (λ (j : ℕ). stored_in (clauses_spelling 1 start f.clauses) j) (omega arith) ∙ at.1 in
-          subst (λ (y : Slot). Spells y (stored_in (clauses_spelling 1 start f.clauses) id)) (sym (opening-formula f id positive within))
-          (subst (λ (o : Option StoredClause). Spells (live (clause_at f id)) o) (sym here) refl)
+          rw (opening-formula f id positive within, here) refl
     ]
     | inr nil ↦
         let none : stored_in (clauses_spelling 1 start f.clauses) id ≡ None = clauses_below 1 start f.clauses id (omega arith) in
-        subst (λ (y : Slot). Spells y (stored_in (clauses_spelling 1 start f.clauses) id)) (sym (opening-none f id nil))
-        (subst (λ (o : Option StoredClause). Spells absent o) (sym none) tt)
+        rw (opening-none f id nil, none) tt
   ];
 }
 

@@ -1,6 +1,6 @@
 -- Lemmas about steps: what a step does to a thread state, under that state's own formula and
 -- layout, implies what the row requires of the step.
-use Rattle.std.proofs.Common.{◌≡◌, ℕ, ◌<◌, List, [], ◌∷◌, set, slice_index, slice_set, refl, sym, subst}
+use Rattle.std.proofs.Common.{◌≡◌, ℕ, ◌<◌, List, [], ◌∷◌, set, slice_index, slice_set, refl, subst}
 use mathlib.Core.Option.{some}
 use lib.ListN.{get_elem?}
 use Rattle.atomic_table.specs.Table.{Step, Me, keeps, Allows}
@@ -27,17 +27,14 @@ to_own : (f : Cnf) (p : LayoutValue) (log : History) (words : List ℕ) (views :
     → Keeps f p log words views
     → (agrees : Agrees f p log words v) → OwnKeeps v agrees.begins.0 words views
 to_own f p log words views v kept agrees =
-    let by_formula : Keeps v.view.caller.formula p log words views =
-    subst (λ (g : Cnf). Keeps g p log words views) (sym agrees.formula) kept in
-    let by_layout : Keeps v.view.caller.formula v.view.caller.layout log words views =
-    subst (λ (q : LayoutValue). Keeps v.view.caller.formula q log words views) (sym agrees.layout) by_formula in
-    subst (λ (h : History). Keeps v.view.caller.formula v.view.caller.layout h words views) agrees.begins.1 by_layout
+    let by_formula : Keeps v.view.caller.formula p log words views = rw agrees.formula kept in
+    let by_layout : Keeps v.view.caller.formula v.view.caller.layout log words views = rw agrees.layout by_formula in
+    rw agrees.begins.1 at by_layout
 
 from_own : (f : Cnf) (p : LayoutValue) (g : Cnf) (q : LayoutValue) (log : History) (words : List ℕ)
     (views : List (List ThreadState)) → g ≡ f
     → q ≡ p → Keeps g q log words views → Keeps f p log words views
-from_own f p g q log words views same_formula same_layout kept =
-    subst (λ (k : LayoutValue). Keeps f k log words views) same_layout (subst (λ (h : Cnf). Keeps h q log words views) same_formula kept)
+from_own f p g q log words views same_formula same_layout kept = rw (same_formula, same_layout) at kept
 
 head_of : (v u : ThreadState) → v ∷ [] ≡ u ∷ [] → v ≡ u
 head_of v u same = cc

@@ -17,7 +17,7 @@ use Rattle.lrup_model.specs.State as slots
 use Rattle.lrup_model.specs.State.{State, opening}
 use Rattle.lrup_model.specs.CallerView.{StoredClause}
 use Rattle.lrup_model.specs.Plain as plain
-use Rattle.lrup_model.specs.Plain.{PlainSlot, Plain, formula_of, plain_state, plain_slot_at, slot_of, clause_of}
+use Rattle.lrup_model.specs.Plain.{PlainSlot, formula_of, plain_state, plain_slot_at, slot_of, clause_of}
 use Rattle.lrup_model.specs.internal.PlainInside.{StoresClause, plain_slot_in, plain_of, LiesWithin, IsPlainSound, flat, entries_from}
 use Rattle.lrup_model.specs.declared.plain_map.Entry.{Entry}
 use Rattle.lrup_model.specs.declared.plain_map.Entry.TheVariants.{Vacant, Live}
@@ -90,8 +90,7 @@ entries_stored front (c ∷ cs) =
     let there : map (plain_slot_in (front ++ (c ++ flat cs))) (entries_from (length front + length c) cs)
     ≡ plain_slot_from (length front + length c) cs =
     ap (λ (ls : List ℤ). map (plain_slot_in ls) (entries_from (length front + length c) cs)) regrouped
-    ∙ subst (λ n. map (plain_slot_in (front ++ c ++ flat cs)) (entries_from n cs) ≡ plain_slot_from n cs) (length-append front c)
-    (entries_stored (front ++ c) cs) in
+    ∙ rw (length-append front c) at (entries_stored (front ++ c) cs) in
     cc
 
 clauses_stored : (from : ℕ) (cs : List Clause) → map clause_of (plain_slot_from from cs) ≡ cs

@@ -14,7 +14,7 @@ use Rattle.lrup_model.specs.Entailment.{Follows, IsDerived}
 use Rattle.lrup_model.specs.Layout.{LayoutValue, Owns, last_identity}
 use Rattle.lrup_model.specs.CallerView.{StoredClause, ClipValue, IsKnown, AllFollow, clip_clause}
 use Rattle.lrup_model.specs.Plain as plain
-use Rattle.lrup_model.specs.Plain.{PlainSlot, Plain, formula_of, stored_of, slot_of, plain_slot_at, plain_caller_view}
+use Rattle.lrup_model.specs.Plain.{PlainSlot, Plain, formula_of, stored_of, plain_caller_view}
 use Rattle.lrup_model.specs.internal.PlainInside.{IsFormulaLive, StoresClause, AfterPublish, AfterRetire}
 use Rattle.lrup_model.specs.History.{IsPublishable}
 use Rattle.lrup_model.specs.declared.clause_map.Published.TheVariants as publishing
@@ -148,15 +148,13 @@ pub sound_retired : (p : LayoutValue) (es : List Entry) (ls : List ℤ) (free : 
     → IsPlainSound p es ls free capacity → p.clauses < id → id < length es → get_or es id Vacant ≡ Live start len
     → IsPlainSound p (set es id (Retired start len)) ls free capacity
 sound_retired p es ls free capacity id start len sound derived within here =
-    let lies : LiesWithin (length ls) (Live start len) =
-    subst (LiesWithin (length ls)) here (All-from_recursion (LiesWithin (length ls)) es sound.within id Vacant within) in
+    let lies = rw here at (All-from_recursion (LiesWithin (length ls)) es sound.within id Vacant within) in
     let text = slice_range ls start (start + len) in
     let v = plain.retired (record { start = start; literals = text }) in
     let same : formula_of (plain_of p (set es id (Retired start len)) ls free) ≡ formula_of (plain_of p es ls free) =
     ap formula_of (view_retired p es ls free id start len) ∙ formula_of-set (plain_of p es ls free) id v free derived in
     let f = formula_of (plain_of p es ls free) in
-    let kept : StoresClause f (plain_slot_in ls (Live start len)) =
-    subst (λ (e : Entry). StoresClause f (plain_slot_in ls e)) here (stores_at f ls es id sound.clauses within) in
+    let kept : StoresClause f (plain_slot_in ls (Live start len)) = rw here at (stores_at f ls es id sound.clauses within) in
     record {
       limits = sound.limits;
       count = length-set es id (Retired start len) ∙ sound.count;
@@ -222,11 +220,7 @@ pub retire_done : (v : Plain) (p : LayoutValue) (es : List Entry) (ls : List ℤ
     → e ≡ get_or es id e → e ≡ Live start len
     → IsPlainSound p (set es id (Retired start len)) ls free capacity
     × AfterRetire v (plain_of p (set es id (Retired start len)) ls free) id retiring.Done
-retire_done v p es ls free capacity s id start len e view sound =
-    subst (λ (w : Plain). Owns w.layout s id → e ≡ get_or es id e → e ≡ Live start len
-    → IsPlainSound p (set es id (Retired start len)) ls free capacity
-    × AfterRetire w (plain_of p (set es id (Retired start len)) ls free) id retiring.Done) view
-    (λ owns read is.
+retire_done v p es ls free capacity s id start len e view sound = rw (← view) (λ owns read is.
     let mine = owned p s id sound.limits.some_stream owns in
     let within : id < length es = within_count p es id sound.count mine.identity in
     let here : get_or es id Vacant ≡ Live start len = sym (get_or_read es id e within read Vacant) ∙ is in (
@@ -246,13 +240,7 @@ pub publish_done : (v : Plain) (p : LayoutValue) (es : List Entry) (ls c more : 
     → e ≡ get_or es id e → e ≡ Vacant → more ≡ ls ++ c → n ≡ length ls → left ≡ get_or free i left → capacity ≤ grown
     → IsPlainSound p (set es id (Live n (length c))) more (set free i (left - length c)) grown
     × AfterPublish v (plain_of p (set es id (Live n (length c))) more (set free i (left - length c))) i id c publishing.Done
-publish_done v p es ls c more free capacity grown i id n left e view sound =
-    subst (λ (w : Plain). Owns w.layout (i + 1) id
-    → IsPublishable (formula_of w) c → length c ≤ get_or w.free i 0
-    → e ≡ get_or es id e → e ≡ Vacant → more ≡ ls ++ c → n ≡ length ls → left ≡ get_or free i left → capacity ≤ grown
-    → IsPlainSound p (set es id (Live n (length c))) more (set free i (left - length c)) grown
-    × AfterPublish w (plain_of p (set es id (Live n (length c))) more (set free i (left - length c))) i id c publishing.Done) view
-    (λ owns clause fits read is grows from room bigger.
+publish_done v p es ls c more free capacity grown i id n left e view sound = rw (← view) (λ owns clause fits read is grows from room bigger.
     let mine = owned p (i + 1) id sound.limits.some_stream owns in
     let within : id < length es = within_count p es id sound.count mine.identity in
     let inside : i < length free = omega (arith, mine.last, sound.streams) in
@@ -283,8 +271,7 @@ stored_follows : (f : Cnf) (x : PlainSlot) (stored : StoredClause) → StoresCla
     → IsDerived f stored.literals
 stored_follows f plain.vacant stored stores there = absurd (nothing_stored there)
 stored_follows f (plain.live k) stored stores there = subst (λ (j : StoredClause). IsDerived f j.literals) (same_Some k stored there) stores
-stored_follows f (plain.retired k) stored stores there =
-    subst (λ (j : StoredClause). IsDerived f j.literals) (same_Some k stored there) stores
+stored_follows f (plain.retired k) stored stores there = rw (same_Some k stored there) at stores
 
 stores_all : (f : Cnf) (xs : List PlainSlot) (id : ℕ) → AllByRecursion (StoresClause f) xs → StoresClause f (get_or xs id plain.vacant)
 stores_all f [] id all = tt
@@ -294,12 +281,11 @@ stores_all f (x ∷ xs) (suc id) all = stores_all f xs id all.1
 -- every stored clause follows from the formula, and the formula's clauses are live
 pub sound_follows : (v : Plain) (p : LayoutValue) (es : List Entry) (ls : List ℤ) (free : List ℕ) (capacity : ℕ) → plain_of p es ls free ≡ v
     → IsPlainSound p es ls free capacity → AllFollow (plain_caller_view v 1) × IsFormulaLive v
-sound_follows v p es ls free capacity view sound =
-    subst (λ (w : Plain). AllFollow (plain_caller_view w 1) × IsFormulaLive w) view (
-      record {
-        each = λ id stored there.
-            stored_follows (formula_of (plain_of p es ls free)) (get_or (map (plain_slot_in ls) es) id plain.vacant) stored
-            (stores_all (formula_of (plain_of p es ls free)) (map (plain_slot_in ls) es) id sound.clauses) there;
-      },
-      sound.formula,
-    )
+sound_follows v p es ls free capacity view sound = rw (← view) (
+  record {
+    each = λ id stored there.
+        stored_follows (formula_of (plain_of p es ls free)) (get_or (map (plain_slot_in ls) es) id plain.vacant) stored
+        (stores_all (formula_of (plain_of p es ls free)) (map (plain_slot_in ls) es) id sound.clauses) there;
+  },
+  sound.formula,
+)

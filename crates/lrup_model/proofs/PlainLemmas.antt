@@ -12,9 +12,9 @@ use Rattle.std.proofs.lemmas.Option.{same_Some}
 use Rattle.lrup_model.specs.Clause.{Clause}
 use Rattle.lrup_model.specs.Layout.{Owns}
 use Rattle.lrup_model.specs.Event as events
-use Rattle.lrup_model.specs.Event.{Event, History, Reply, stream_of, own, spent, size_of}
+use Rattle.lrup_model.specs.Event.{Event, stream_of, size_of}
 use Rattle.lrup_model.specs.State as slots
-use Rattle.lrup_model.specs.State.{State, Slot, IsLive, IsRetired, Answers, after, retire_slot, run}
+use Rattle.lrup_model.specs.State.{IsLive, Answers, after, retire_slot}
 use Rattle.lrup_model.specs.History.{IsAllowed, IsPublishable}
 use Rattle.lrup_model.specs.Formula.{Cnf, clause_at}
 use Rattle.lrup_model.specs.Entailment.{IsDerived}
@@ -25,8 +25,7 @@ use Rattle.lrup_model.specs.declared.clause_map.Retired.{Retired}
 use Rattle.lrup_model.specs.declared.clause_map.Retired.TheVariants as retiring
 use Rattle.lrup_model.specs.lemmas.HistoryLemmas.{put, owned_above, spent_one}
 use Rattle.lrup_model.specs.Plain.{PlainSlot, vacant, live, retired, Plain, slot_of, stored_of, clause_of, plain_slot_at, formula_of}
-use Rattle.lrup_model.specs.Plain.{plain_state}
-use Rattle.lrup_model.specs.Plain.{free_at, plain_caller_view, PlainMoves}
+use Rattle.lrup_model.specs.Plain.{plain_state, free_at, plain_caller_view, PlainMoves}
 use Rattle.lrup_model.specs.internal.PlainInside.{IsFormulaLive, AfterPublish, AfterRetire, fetched_of}
 use Rattle.lrup_model.specs.declared.clause_map.Published.{Published}
 use Rattle.lrup_model.specs.declared.clause_map.Published.TheVariants as publishing
@@ -147,10 +146,8 @@ moves_done m s id start c first last derived within owns clause empty fits =
         room_left m.free (s - 1) (length c) (omega (arith, first, last)) fits,
       );
       others = λ t positive other. get_or-set_other m.free (s - 1) (t - 1) _ 0 (omega (arith, first, positive, other));
-      spelt = keeps-set m id v free within (λ stored old. absurd (nothing_stored (subst (λ w. stored_of w ≡ Some stored) empty old)));
-      follow = follow-set m s id v free derived within
-          (λ stored there all. subst (λ (k : StoredClause). IsDerived (formula_of m) k.literals)
-          (same_Some _ _ there) (clause.clause, clause.follows));
+      spelt = keeps-set m id v free within (λ stored old. absurd (nothing_stored (rw empty at old)));
+      follow = follow-set m s id v free derived within (λ stored there all. rw (← (same_Some _ _ there)) (clause.clause, clause.follows));
     }
 
 vacant_from : (s : PlainSlot) → slot_of s ≡ slots.absent → s ≡ vacant
@@ -167,15 +164,9 @@ moves_publish old new i id c publishing.Done owns clause fits after =
     let v = live (record { start = after.3; literals = c }) in
     let moved = moves_done old (i + 1) id after.3 c (omega arith) (omega (arith, after.0))
     (owned_above old.layout (i + 1) id owns) after.1 owns clause after.2 fits in
-    subst (λ (n : Plain). PlainMoves old n (i + 1) (events.publish (i + 1) id c publishing.Done ∷ [])) (sym after.4)
-    (subst (λ j. PlainMoves old (record {
-      layout = old.layout;
-      plain_slots = set old.plain_slots id v;
-      free = set old.free j (get_or old.free j 0 - length c);
-    }) (i + 1) (events.publish (i + 1) id c publishing.Done ∷ [])) place moved)
+    rw after.4 (rw place at moved)
 moves_publish old new i id c publishing.Taken owns clause fits after =
-    subst (λ (n : Plain). PlainMoves old n (i + 1) (events.publish (i + 1) id c publishing.Taken ∷ [])) (sym after.1)
-    (moves_taken old (i + 1) id c owns clause (λ none. after.0 (vacant_from (plain_slot_at old id) none)))
+    rw after.1 (moves_taken old (i + 1) id c owns clause (λ none. after.0 (vacant_from (plain_slot_at old id) none)))
 
 retired_state : (m : Plain) (id : ℕ) (stored : StoredClause) → plain_slot_at m id ≡ live stored
     → retire_slot (plain_state m id) ≡ slots.retired stored.literals
@@ -202,8 +193,7 @@ moves_retire old new s id retiring.Done owns after =
     } in
     subst (λ (n : Plain). PlainMoves old n s (events.retire s id retiring.Done ∷ [])) (sym after.3) moved
 moves_retire old new s id retiring.NotLive owns after =
-    subst (λ (n : Plain). PlainMoves old n s (events.retire s id retiring.NotLive ∷ [])) (sym after.1)
-    (stays old s (events.retire s id retiring.NotLive) refl refl refl after.0 owns)
+    rw after.1 (stays old s (events.retire s id retiring.NotLive) refl refl refl after.0 owns)
 
 -- Fetches
 
@@ -220,8 +210,7 @@ fetched_is m s id (live stored) here =
 fetched_is m s id (retired stored) here = (stored, ap stored_of here)
 
 pub fetch_fetched : (m : Plain) (s id : ℕ) (r : Fetched) → r ≡ fetched_of id (plain_slot_at m id) → IsFetched (plain_caller_view m s) id r
-fetch_fetched m s id r is =
-    subst (λ (x : Fetched). IsFetched (plain_caller_view m s) id x) (sym is) (fetched_is m s id (plain_slot_at m id) refl)
+fetch_fetched m s id r is = rw is (fetched_is m s id (plain_slot_at m id) refl)
 
 -- a clause of the formula is the one stored under its identity
 formula_stored : (m : Plain) (id : ℕ) → 0 < id → id ≤ m.layout.clauses → clause_at (formula_of m) id ≡ clause_of (plain_slot_at m id)

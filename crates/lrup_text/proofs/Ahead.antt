@@ -125,8 +125,7 @@ items_ahead m v count used ids piece h at items size found =
           few_literals = h.kept.few_literals;
           few_identities = omega (arith, found.few, size);
           literals = h.kept.literals;
-          identities = subst (AllByRecursion IsStreamNumber) (sym lists)
-              (All-append IsStreamNumber (identities_read m) found.more h.kept.identities found.each);
+          identities = rw lists (All-append IsStreamNumber (identities_read m) found.more h.kept.identities found.each);
         };
         number = h.number;
         roomy = subst (λ p. IsRoomy p m) at h.roomy;
@@ -135,7 +134,7 @@ items_ahead m v count used ids piece h at items size found =
       };
       is = grown ∙ ap (λ p. pending_at p m ++ numbers_text found.more) (sym at) ∙ ap (λ t. pending m ++ t) (sym found.is);
     } in
-    subst (λ p. ReadsAhead m piece used (record next { state = p })) (sym at) result
+    rw (sym at) at result
 
 pub literals_ahead : (m : PartialLine) (v : Vec ℤ Global) (count used : ℕ) (lits : List ℤ) (piece : List ℕ) → IsPartialLine m
     → m.state ≡ states.Body → v.items ≡ lits → length lits ≡ 65535
@@ -163,8 +162,7 @@ literals_ahead m v count used lits piece h at items size found =
           few_literals = omega (arith, found.few, size);
           few_identities = h.kept.few_identities;
           identities = h.kept.identities;
-          literals = subst (AllByRecursion IsStreamLiteral) (sym lists)
-              (All-append IsStreamLiteral (literals_read m) found.more h.kept.literals found.each);
+          literals = rw lists (All-append IsStreamLiteral (literals_read m) found.more h.kept.literals found.each);
         };
         number = h.number;
         roomy = subst (λ p. IsRoomy p m) at h.roomy;
@@ -173,8 +171,4 @@ literals_ahead m v count used lits piece h at items size found =
       };
       is = grown ∙ ap (λ p. pending_at p m ++ literals_text found.more) (sym at) ∙ ap (λ t. pending m ++ t) (sym found.is);
     } in
-    subst (λ p. ReadsAhead m piece used (record next { state = p })) (sym at) result
-
--- `ReadsAhead` holds before any byte of the piece has been read
-pub nothing_ahead : (m : PartialLine) (piece : List ℕ) → IsPartialLine m → ReadsAhead m piece 0 m
-nothing_ahead m piece h = record { bound = omega arith; reads = h; is = sym (append-nil (pending m)) }
+    rw (sym at) at result

@@ -5,7 +5,7 @@ use Rattle.std.specs.Fmt.{decimal, signed_decimal}
 use Rattle.std.specs.List.{AllByRecursion, flat_map}
 use Rattle.std.specs.Prelude.{Vec, vec_len, slice_set}
 use Rattle.std.specs.declared.alloc.Global.{Global}
-use Rattle.std.proofs.lemmas.List.{append_assoc, append-nil, flat_map_more, take_more_set, length-set, length-take-le}
+use Rattle.std.proofs.lemmas.List.{append_assoc, flat_map_more, take_more_set, length-set, length-take-le}
 use Rattle.std.proofs.lemmas.Bool.{cases_eq}
 use Rattle.lrup_model.specs.lemmas.ListLemmas.{All-push}
 use Rattle.lrup_text.specs.declared.LineFault.TheVariants.{Spelling, TooLong, RatHint}
@@ -19,9 +19,8 @@ use Rattle.lrup_text.specs.Faults.{IsRefused}
 use Rattle.lrup_text.specs.Lines.{IsWithinLimits, IsStreamNumber, IsStreamLiteral, LineText, line_text}
 use Rattle.lrup_text.specs.internal.Rests.{Spot, InLead, AfterImport, BeforeLiteral, AfterMinus, InLiteral, BeforeList, BeforeItem}
 use Rattle.lrup_text.specs.internal.Rests.{InItem, AtEnd, Tracks, Moves, Blocks, Allows}
-use Rattle.lrup_text.specs.internal.Reading.{FitsDigits, CanOccurInLine, IsPartialLine, pending_at, spot_at, pending, IsRoomy}
-use Rattle.lrup_text.specs.internal.Reading.{clause_front}
-use Rattle.lrup_text.specs.internal.Reading.{list_front, item_front, end_front, literal_front, literals_read, identities_read}
+use Rattle.lrup_text.specs.internal.Reading.{FitsDigits, HasRoom, CanOccurInLine, IsPartialLine, pending_at, spot_at, pending, IsRoomy}
+use Rattle.lrup_text.specs.internal.Reading.{clause_front, list_front, item_front, end_front, literal_front, literals_read, identities_read}
 use Rattle.lrup_text.specs.internal.Reading.{words_text, literals_text, numbers_text, line_so_far, line_of_parts}
 use Rattle.lrup_text.proofs.Decisions.{decides_spelling, decides_long, decides_rat}
 use Rattle.lrup_text.proofs.Rests.{list_is_clause}
@@ -76,16 +75,13 @@ tracks_at m state e h = subst (λ p. Tracks (pending_at p m) (spot_at p m)) e h.
 
 bounded_at : (m : PartialLine) (state : ParserState) → IsPartialLine m → IsRoomy state m → IsBounded (spot_at state m)
 unfolding spot_at IsRoomy
-bounded_at m states.Start h roomy = tt
 bounded_at m states.Lead h roomy = h.number.few
-bounded_at m states.Import h roomy = tt
 bounded_at m states.Body h roomy = h.kept.few_literals
 bounded_at m states.Minus h roomy = roomy.1
 bounded_at m states.Literal h roomy = (h.number.few, roomy.1)
-bounded_at m states.List h roomy = tt
 bounded_at m states.Item h roomy = h.kept.few_identities
 bounded_at m states.Number h roomy = (h.number.few, roomy.0)
-bounded_at m states.LineEnd h roomy = tt
+bounded_at m _ h roomy = tt
 
 -- the counts are within the limits
 pub bounded : (m : PartialLine) → IsPartialLine m → IsBounded (spot_at m.state m)
@@ -93,24 +89,32 @@ bounded m h = bounded_at m m.state h h.roomy
 
 module _ (m : PartialLine) (state : ParserState) (at : m.state ≡ state) (reads : IsPartialLine m) (b : ℕ) where
   pub spelling_at : ((signed : Bool) → Blocks signed (spot_at state m) b) → IsRefused (pending m ++ b ∷ []) Spelling
-  spelling_at blocks =
-      decides_spelling (pending m) (spot_at m.state m) b reads.tracks (bounded m reads)
-      (subst (λ p. (signed : Bool) → Blocks signed (spot_at p m) b) (sym at) blocks)
+  spelling_at blocks = decides_spelling (pending m) (spot_at m.state m) b reads.tracks (bounded m reads) (rw (sym at) at blocks)
 
   pub long_at : Exceeds (spot_at state m) b → IsRefused (pending m ++ b ∷ []) TooLong
   long_at exceeds =
       decides_long (pending m) (spot_at m.state m) b reads.tracks (bounded m reads) (subst (λ p. Exceeds (spot_at p m) b) (sym at) exceeds)
 
--- a line that has been read in part, after one more byte
-module _ (m next : PartialLine) (state : ParserState) (at : m.state ≡ state) (reads : IsPartialLine m) (b : ℕ) where
-  pub tracks_next : pending next ≡ pending_at state m ++ b ∷ [] → Moves (spot_at state m) b (spot_at next.state next)
-      → Tracks (pending next) (spot_at next.state next)
-  tracks_next is moves =
-      subst (λ t. Tracks t (spot_at next.state next)) (sym is)
-      (tracks_more (pending_at state m) (spot_at state m) (spot_at next.state next) b (tracks_at m state at reads) moves)
+-- The line isn't finished after this byte.
+abbrev pub GoesOn : PartialLine → ℕ → PartialLine → Type 0
+GoesOn m b next = IsPartialLine next × (pending next ≡ pending m ++ b ∷ [])
 
-  pub pending_next : pending next ≡ pending_at state m ++ b ∷ [] → pending next ≡ pending m ++ b ∷ []
-  pending_next is = is ∙ ap (λ p. pending_at p m ++ b ∷ []) (sym at)
+-- a line that has been read in part goes on, if its byte leads to the next spot
+goes_on : (m next : PartialLine) (state : ParserState) → m.state ≡ state → IsPartialLine m → (b : ℕ)
+    → HasRoom next.literals.items next.identities.items
+    → CanOccurInLine next.lead next.literals.items next.literal_count next.identities.items next.identity_count
+    → FitsDigits next.number next.digits → IsRoomy next.state next → pending next ≡ pending_at state m ++ b ∷ []
+    → Moves (spot_at state m) b (spot_at next.state next) → GoesOn m b next
+goes_on m next state at reads b room kept number roomy is moves = (
+  record {
+    room = room;
+    kept = kept;
+    number = number;
+    roomy = roomy;
+    tracks = rw is (tracks_more (pending_at state m) (spot_at state m) (spot_at next.state next) b (tracks_at m state at reads) moves);
+  },
+  is ∙ ap (λ p. pending_at p m ++ b ∷ []) (sym at),
+)
 
 -- a number after its first digit, and after one more digit
 pub first_digit : (b : ℕ) → 49 ≤ b → b ≤ 57 → FitsDigits (b - 48) 1
@@ -205,10 +209,6 @@ pub list_more : (front : List ℕ) (ids longer x : List ℕ) → numbers_text lo
     → front ++ space ∷ numbers_text longer ≡ (front ++ space ∷ numbers_text ids) ++ x
 list_more front ids longer x is = ap (λ t. front ++ space ∷ t) is ∙ sym (append_assoc front (space ∷ numbers_text ids) x)
 
--- The line isn't finished after this byte.
-abbrev pub GoesOn : PartialLine → ℕ → PartialLine → Type 0
-GoesOn m b next = IsPartialLine next × (pending next ≡ pending m ++ b ∷ [])
-
 module _ (m : PartialLine) (b : ℕ) (h : IsPartialLine m) where
   -- Start
 
@@ -216,16 +216,8 @@ module _ (m : PartialLine) (b : ℕ) (h : IsPartialLine m) where
   unfolding pending_at spot_at IsRoomy
   start_goes_on at low high =
       let next : PartialLine = record m { number = b - 48; digits = 1; state = states.Lead } in
-      let is : pending next ≡ [] ++ b ∷ [] = decimal_one b (omega arith, high) in (
-        record {
-          room = h.room;
-          kept = h.kept;
-          number = first_digit b low high;
-          roomy = tt;
-          tracks = tracks_next m next states.Start at h b is (start_digit b low high);
-        },
-        pending_next m next states.Start at h b is,
-      )
+      let is : pending next ≡ [] ++ b ∷ [] = decimal_one b (omega arith, high) in
+      goes_on m next states.Start at h b h.room h.kept (first_digit b low high) tt is (start_digit b low high)
 
   pub start_spelling : m.state ≡ states.Start → NoFirst b → IsRefused (pending m ++ b ∷ []) Spelling
   unfolding spot_at
@@ -239,40 +231,24 @@ module _ (m : PartialLine) (b : ℕ) (h : IsPartialLine m) where
   lead_digit_goes_on at digit few =
       let next : PartialLine = record m { number = m.number * 10 + (b - 48); digits = m.digits + 1; state = states.Lead } in
       let is : pending next ≡ decimal m.number ++ b ∷ [] = decimal_next m.number m.digits b h.number few digit in
-      let goes : GoesOn m b next = (
-        record {
-          room = h.room;
-          kept = h.kept;
-          number = more_digits m.number m.digits b h.number few digit;
-          roomy = tt;
-          tracks = tracks_next m next states.Lead at h b is (lead_digit m.digits b digit);
-        },
-        pending_next m next states.Lead at h b is,
-      ) in
-      subst (λ p. GoesOn m b (record next { state = p })) (sym at) goes
+      subst (λ p. GoesOn m b (record next { state = p })) (sym at)
+      (goes_on m next states.Lead at h b h.room h.kept (more_digits m.number m.digits b h.number few digit) tt is
+      (lead_digit m.digits b digit))
 
   pub lead_space_goes_on : m.state ≡ states.Lead → b ≡ space
       → GoesOn m b (record m { lead = m.number; imports = false; literal_count = 0; identity_count = 0; state = states.Body })
   unfolding pending_at spot_at IsRoomy words_text
   lead_space_goes_on at e =
       let next : PartialLine = record m { lead = m.number; imports = false; literal_count = 0; identity_count = 0; state = states.Body } in
-      let is : pending next ≡ decimal m.number ++ b ∷ [] = ap (λ x. decimal m.number ++ x ∷ []) (sym e) in (
-        record {
-          room = h.room;
-          kept = record {
-            lead = positive m.number m.digits h.number;
-            few_literals = omega arith;
-            few_identities = omega arith;
-            literals = tt;
-            identities = tt;
-          };
-          number = h.number;
-          roomy = refl;
-          tracks = tracks_next m next states.Lead at h b is
-              (subst (λ x. Moves (InLead m.digits) x (BeforeLiteral false 0)) (sym e) (lead_space m.digits h.number.few));
-        },
-        pending_next m next states.Lead at h b is,
-      )
+      let is : pending next ≡ decimal m.number ++ b ∷ [] = ap (λ x. decimal m.number ++ x ∷ []) (sym e) in
+      goes_on m next states.Lead at h b h.room (record {
+        lead = positive m.number m.digits h.number;
+        few_literals = omega arith;
+        few_identities = omega arith;
+        literals = tt;
+        identities = tt;
+      }) h.number refl is
+      (subst (λ x. Moves (InLead m.digits) x (BeforeLiteral false 0)) (sym e) (lead_space m.digits h.number.few))
 
   pub lead_too_long : m.state ≡ states.Lead → IsDigit b → 18 ≤ m.digits → IsRefused (pending m ++ b ∷ []) TooLong
   unfolding spot_at
@@ -296,19 +272,11 @@ module _ (m : PartialLine) (b : ℕ) (h : IsPartialLine m) where
       ∙ ap (clause_front true m.lead) empty in
       let is : pending next ≡ (decimal m.lead ++ space ∷ letter_i ∷ []) ++ b ∷ [] =
       front ∙ ap (λ x. decimal m.lead ++ space ∷ letter_i ∷ x ∷ []) (sym e)
-      ∙ sym (append_assoc (decimal m.lead) (space ∷ letter_i ∷ []) (b ∷ [])) in (
-        record {
-          room = h.room;
-          kept = h.kept;
-          number = h.number;
-          roomy = roomy.0;
-          tracks = tracks_next m next states.Import at h b is
-              (subst (λ i. Moves AfterImport b (BeforeLiteral i m.literal_count)) (sym roomy.2)
-              (subst (λ n. Moves AfterImport b (BeforeLiteral true n)) (sym roomy.1)
-              (subst (λ x. Moves AfterImport x (BeforeLiteral true 0)) (sym e) import_space)));
-        },
-        pending_next m next states.Import at h b is,
-      )
+      ∙ sym (append_assoc (decimal m.lead) (space ∷ letter_i ∷ []) (b ∷ [])) in
+      goes_on m next states.Import at h b h.room h.kept h.number roomy.0 is
+      (subst (λ i. Moves AfterImport b (BeforeLiteral i m.literal_count)) (sym roomy.2)
+      (subst (λ n. Moves AfterImport b (BeforeLiteral true n)) (sym roomy.1)
+      (subst (λ x. Moves AfterImport x (BeforeLiteral true 0)) (sym e) import_space)))
 
   pub import_spelling : m.state ≡ states.Import → b ≢ space → IsRefused (pending m ++ b ∷ []) Spelling
   unfolding spot_at
@@ -323,19 +291,11 @@ module _ (m : PartialLine) (b : ℕ) (h : IsPartialLine m) where
       let next : PartialLine = record m { deletes = false; state = states.List } in
       let is : pending next ≡ clause_front m.imports m.lead (literals_read m) ++ b ∷ [] =
       ap (λ i. clause_front i m.lead (literals_read m) ++ zero_digit ∷ []) (sym adds)
-      ∙ ap (λ x. clause_front m.imports m.lead (literals_read m) ++ x ∷ []) (sym e) in (
-        record {
-          room = h.room;
-          kept = h.kept;
-          number = h.number;
-          roomy = (subst (λ p. IsRoomy p m) at h.roomy, adds);
-          tracks = tracks_next m next states.Body at h b is
-              (subst (λ i. Moves (BeforeLiteral i m.literal_count) b (BeforeList false)) (sym adds)
-              (subst (λ x. Moves (BeforeLiteral false m.literal_count) x (BeforeList false)) (sym e)
-              (body_hints m.literal_count h.kept.few_literals)));
-        },
-        pending_next m next states.Body at h b is,
-      )
+      ∙ ap (λ x. clause_front m.imports m.lead (literals_read m) ++ x ∷ []) (sym e) in
+      goes_on m next states.Body at h b h.room h.kept h.number (subst (λ p. IsRoomy p m) at h.roomy, adds) is
+      (subst (λ i. Moves (BeforeLiteral i m.literal_count) b (BeforeList false)) (sym adds)
+      (subst (λ x. Moves (BeforeLiteral false m.literal_count) x (BeforeList false)) (sym e)
+      (body_hints m.literal_count h.kept.few_literals)))
 
   pub body_end_goes_on : m.state ≡ states.Body → b ≡ zero_digit → m.imports ≡ true → GoesOn m b (record m { state = states.LineEnd })
   unfolding pending_at spot_at IsRoomy
@@ -344,18 +304,10 @@ module _ (m : PartialLine) (b : ℕ) (h : IsPartialLine m) where
       let is : pending next ≡ clause_front m.imports m.lead (literals_read m) ++ b ∷ [] =
       ap (λ i. end_front i m.deletes m.lead (literals_read m) (identities_read m)) imports
       ∙ ap (λ i. clause_front i m.lead (literals_read m) ++ zero_digit ∷ []) (sym imports)
-      ∙ ap (λ x. clause_front m.imports m.lead (literals_read m) ++ x ∷ []) (sym e) in (
-        record {
-          room = h.room;
-          kept = h.kept;
-          number = h.number;
-          roomy = tt;
-          tracks = tracks_next m next states.Body at h b is
-              (subst (λ i. Moves (BeforeLiteral i m.literal_count) b AtEnd) (sym imports)
-              (subst (λ x. Moves (BeforeLiteral true m.literal_count) x AtEnd) (sym e) (body_end m.literal_count h.kept.few_literals)));
-        },
-        pending_next m next states.Body at h b is,
-      )
+      ∙ ap (λ x. clause_front m.imports m.lead (literals_read m) ++ x ∷ []) (sym e) in
+      goes_on m next states.Body at h b h.room h.kept h.number tt is
+      (subst (λ i. Moves (BeforeLiteral i m.literal_count) b AtEnd) (sym imports)
+      (subst (λ x. Moves (BeforeLiteral true m.literal_count) x AtEnd) (sym e) (body_end m.literal_count h.kept.few_literals)))
 
   -- the front of a line that has no literals so far and isn't an import
   lead_front : m.imports ≡ false → m.literal_count ≡ 0 → clause_front m.imports m.lead (literals_read m) ≡ decimal m.lead ++ space ∷ []
@@ -376,16 +328,9 @@ module _ (m : PartialLine) (b : ℕ) (h : IsPartialLine m) where
       let next : PartialLine = record m { deletes = true; state = states.List } in
       let is : pending next ≡ clause_front m.imports m.lead (literals_read m) ++ b ∷ [] =
       sym (ap (λ t. t ++ b ∷ []) (lead_front adds few) ∙ append_assoc (decimal m.lead) (space ∷ []) (b ∷ [])
-      ∙ ap (λ x. decimal m.lead ++ space ∷ x ∷ []) e) in (
-        record {
-          room = h.room;
-          kept = h.kept;
-          number = h.number;
-          roomy = (subst (λ p. IsRoomy p m) at h.roomy, adds);
-          tracks = tracks_next m next states.Body at h b is (letter_moves (BeforeList true) letter_d e adds few body_deletion);
-        },
-        pending_next m next states.Body at h b is,
-      )
+      ∙ ap (λ x. decimal m.lead ++ space ∷ x ∷ []) e) in
+      goes_on m next states.Body at h b h.room h.kept h.number (subst (λ p. IsRoomy p m) at h.roomy, adds) is
+      (letter_moves (BeforeList true) letter_d e adds few body_deletion)
 
   pub body_import_goes_on : m.state ≡ states.Body → b ≡ letter_i → m.imports ≡ false → m.literal_count ≡ 0
       → GoesOn m b (record m { imports = true; state = states.Import })
@@ -394,34 +339,19 @@ module _ (m : PartialLine) (b : ℕ) (h : IsPartialLine m) where
       let next : PartialLine = record m { imports = true; state = states.Import } in
       let is : pending next ≡ clause_front m.imports m.lead (literals_read m) ++ b ∷ [] =
       sym (ap (λ t. t ++ b ∷ []) (lead_front adds few) ∙ append_assoc (decimal m.lead) (space ∷ []) (b ∷ [])
-      ∙ ap (λ x. decimal m.lead ++ space ∷ x ∷ []) e) in (
-        record {
-          room = h.room;
-          kept = h.kept;
-          number = h.number;
-          roomy = (subst (λ p. IsRoomy p m) at h.roomy, few, refl);
-          tracks = tracks_next m next states.Body at h b is (letter_moves AfterImport letter_i e adds few body_import);
-        },
-        pending_next m next states.Body at h b is,
-      )
+      ∙ ap (λ x. decimal m.lead ++ space ∷ x ∷ []) e) in
+      goes_on m next states.Body at h b h.room h.kept h.number (subst (λ p. IsRoomy p m) at h.roomy, few, refl) is
+      (letter_moves AfterImport letter_i e adds few body_import)
 
   pub body_minus_goes_on : m.state ≡ states.Body → b ≡ minus → m.literal_count < 65535 → GoesOn m b (record m { state = states.Minus })
   unfolding pending_at spot_at IsRoomy
   body_minus_goes_on at e few =
       let next : PartialLine = record m { state = states.Minus } in
       let is : pending next ≡ clause_front m.imports m.lead (literals_read m) ++ b ∷ [] =
-      ap (λ x. clause_front m.imports m.lead (literals_read m) ++ x ∷ []) (sym e) in (
-        record {
-          room = h.room;
-          kept = h.kept;
-          number = h.number;
-          roomy = (subst (λ p. IsRoomy p m) at h.roomy, few);
-          tracks = tracks_next m next states.Body at h b is
-              (subst (λ x. Moves (BeforeLiteral m.imports m.literal_count) x (AfterMinus m.imports m.literal_count)) (sym e)
-              (body_minus m.imports m.literal_count));
-        },
-        pending_next m next states.Body at h b is,
-      )
+      ap (λ x. clause_front m.imports m.lead (literals_read m) ++ x ∷ []) (sym e) in
+      goes_on m next states.Body at h b h.room h.kept h.number (subst (λ p. IsRoomy p m) at h.roomy, few) is
+      (subst (λ x. Moves (BeforeLiteral m.imports m.literal_count) x (AfterMinus m.imports m.literal_count)) (sym e)
+      (body_minus m.imports m.literal_count))
 
   pub body_digit_goes_on : m.state ≡ states.Body → 49 ≤ b → b ≤ 57 → m.literal_count < 65535
       → GoesOn m b (record m { negative = false; number = b - 48; digits = 1; state = states.Literal })
@@ -429,16 +359,9 @@ module _ (m : PartialLine) (b : ℕ) (h : IsPartialLine m) where
   body_digit_goes_on at low high few =
       let next : PartialLine = record m { negative = false; number = b - 48; digits = 1; state = states.Literal } in
       let is : pending next ≡ clause_front m.imports m.lead (literals_read m) ++ b ∷ [] =
-      ap (λ t. clause_front m.imports m.lead (literals_read m) ++ t) (decimal_one b (omega arith, high)) in (
-        record {
-          room = h.room;
-          kept = h.kept;
-          number = first_digit b low high;
-          roomy = (subst (λ p. IsRoomy p m) at h.roomy, few);
-          tracks = tracks_next m next states.Body at h b is (body_digit m.imports m.literal_count b low high);
-        },
-        pending_next m next states.Body at h b is,
-      )
+      ap (λ t. clause_front m.imports m.lead (literals_read m) ++ t) (decimal_one b (omega arith, high)) in
+      goes_on m next states.Body at h b h.room h.kept (first_digit b low high) (subst (λ p. IsRoomy p m) at h.roomy, few) is
+      (body_digit m.imports m.literal_count b low high)
 
   pub body_too_long : m.state ≡ states.Body → m.literal_count ≡ 65535 → (b ≢ minus → (49 ≤ b) × (b ≤ 57))
       → IsRefused (pending m ++ b ∷ []) TooLong
@@ -466,16 +389,9 @@ module _ (m : PartialLine) (b : ℕ) (h : IsPartialLine m) where
       let next : PartialLine = record m { negative = true; number = b - 48; digits = 1; state = states.Literal } in
       let front = clause_front m.imports m.lead (literals_read m) in
       let is : pending next ≡ (front ++ minus ∷ []) ++ b ∷ [] =
-      ap (λ t. front ++ minus ∷ t) (decimal_one b (omega arith, high)) ∙ sym (append_assoc front (minus ∷ []) (b ∷ [])) in (
-        record {
-          room = h.room;
-          kept = h.kept;
-          number = first_digit b low high;
-          roomy = subst (λ p. IsRoomy p m) at h.roomy;
-          tracks = tracks_next m next states.Minus at h b is (minus_digit m.imports m.literal_count b low high);
-        },
-        pending_next m next states.Minus at h b is,
-      )
+      ap (λ t. front ++ minus ∷ t) (decimal_one b (omega arith, high)) ∙ sym (append_assoc front (minus ∷ []) (b ∷ [])) in
+      goes_on m next states.Minus at h b h.room h.kept (first_digit b low high) (subst (λ p. IsRoomy p m) at h.roomy) is
+      (minus_digit m.imports m.literal_count b low high)
 
   pub minus_spelling : m.state ≡ states.Minus → NoFirst b → IsRefused (pending m ++ b ∷ []) Spelling
   unfolding spot_at
@@ -498,17 +414,9 @@ module _ (m : PartialLine) (b : ℕ) (h : IsPartialLine m) where
       let is : pending next ≡ (front ++ literal_front m.negative m.number) ++ b ∷ [] =
       ap (λ t. front ++ t) (literal_more m.negative m.number m.digits h.number few digit)
       ∙ sym (append_assoc front (literal_front m.negative m.number) (b ∷ [])) in
-      let goes : GoesOn m b next = (
-        record {
-          room = h.room;
-          kept = h.kept;
-          number = more_digits m.number m.digits b h.number few digit;
-          roomy = subst (λ p. IsRoomy p m) at h.roomy;
-          tracks = tracks_next m next states.Literal at h b is (literal_digit m.imports m.digits m.literal_count b digit);
-        },
-        pending_next m next states.Literal at h b is,
-      ) in
-      subst (λ p. GoesOn m b (record next { state = p })) (sym at) goes
+      subst (λ p. GoesOn m b (record next { state = p })) (sym at)
+      (goes_on m next states.Literal at h b h.room h.kept (more_digits m.number m.digits b h.number few digit)
+      (subst (λ p. IsRoomy p m) at h.roomy) is (literal_digit m.imports m.digits m.literal_count b digit))
 
   -- the buffer has room for the literal
   pub literal_room : m.state ≡ states.Literal → m.literal_count < vec_len m.literals
@@ -537,28 +445,20 @@ module _ (m : PartialLine) (b : ℕ) (h : IsPartialLine m) where
       clause_more m.imports m.lead (literals_read m) (literals_read next) (word ++ space ∷ []) texts
       ∙ sym (append_assoc front word (space ∷ []))
       ∙ ap (λ x. (front ++ word) ++ x ∷ []) (sym e) in
-      let literal : IsStreamLiteral z = subst IsStreamNumber (sym magnitude) (positive m.number m.digits h.number) in (
-        record {
-          room = record {
-            literals = ap length items ∙ length-set m.literals.items m.literal_count z ∙ count;
-            identities = h.room.identities;
-          };
-          kept = record {
-            lead = h.kept.lead;
-            few_literals = omega arith;
-            few_identities = h.kept.few_identities;
-            identities = h.kept.identities;
-            literals =
-                subst (AllByRecursion IsStreamLiteral) (sym more) (All-push IsStreamLiteral (literals_read m) z h.kept.literals literal);
-          };
-          number = h.number;
-          roomy = roomy.0;
-          tracks = tracks_next m next states.Literal at h b is
-              (subst (λ x. Moves (InLiteral m.imports m.digits m.literal_count) x (BeforeLiteral m.imports (m.literal_count + 1))) (sym e)
-              (literal_space m.imports m.digits m.literal_count h.number.few));
-        },
-        pending_next m next states.Literal at h b is,
-      )
+      let literal : IsStreamLiteral z = subst IsStreamNumber (sym magnitude) (positive m.number m.digits h.number) in
+      goes_on m next states.Literal at h b (record {
+        literals = ap length items ∙ length-set m.literals.items m.literal_count z ∙ count;
+        identities = h.room.identities;
+      }) (record {
+        lead = h.kept.lead;
+        few_literals = omega arith;
+        few_identities = h.kept.few_identities;
+        identities = h.kept.identities;
+        literals =
+            subst (AllByRecursion IsStreamLiteral) (sym more) (All-push IsStreamLiteral (literals_read m) z h.kept.literals literal);
+      }) h.number roomy.0 is
+      (subst (λ x. Moves (InLiteral m.imports m.digits m.literal_count) x (BeforeLiteral m.imports (m.literal_count + 1))) (sym e)
+      (literal_space m.imports m.digits m.literal_count h.number.few))
 
   pub literal_too_long : m.state ≡ states.Literal → IsDigit b → 18 ≤ m.digits → IsRefused (pending m ++ b ∷ []) TooLong
   unfolding spot_at IsRoomy
@@ -583,18 +483,10 @@ module _ (m : PartialLine) (b : ℕ) (h : IsPartialLine m) where
       let roomy : (m.identity_count ≡ 0) × (m.imports ≡ false) = subst (λ p. IsRoomy p m) at h.roomy in
       let none : m.identity_count ≡ 0 = roomy.0 in
       let empty : item_front m ≡ front ++ space ∷ [] = ap (λ n. front ++ space ∷ numbers_text (take n m.identities.items)) none in
-      let is : pending next ≡ front ++ b ∷ [] = empty ∙ ap (λ x. front ++ x ∷ []) (sym e) in (
-        record {
-          room = h.room;
-          kept = h.kept;
-          number = h.number;
-          roomy = roomy.1;
-          tracks = tracks_next m next states.List at h b is
-              (subst (λ n. Moves (BeforeList m.deletes) b (BeforeItem m.deletes n)) (sym none)
-              (subst (λ x. Moves (BeforeList m.deletes) x (BeforeItem m.deletes 0)) (sym e) (list_space m.deletes)));
-        },
-        pending_next m next states.List at h b is,
-      )
+      let is : pending next ≡ front ++ b ∷ [] = empty ∙ ap (λ x. front ++ x ∷ []) (sym e) in
+      goes_on m next states.List at h b h.room h.kept h.number roomy.1 is
+      (subst (λ n. Moves (BeforeList m.deletes) b (BeforeItem m.deletes n)) (sym none)
+      (subst (λ x. Moves (BeforeList m.deletes) x (BeforeItem m.deletes 0)) (sym e) (list_space m.deletes)))
 
   pub list_spelling : m.state ≡ states.List → b ≢ space → IsRefused (pending m ++ b ∷ []) Spelling
   unfolding spot_at
@@ -608,33 +500,19 @@ module _ (m : PartialLine) (b : ℕ) (h : IsPartialLine m) where
       let next : PartialLine = record m { state = states.LineEnd } in
       let lists : m.imports ≡ false = subst (λ p. IsRoomy p m) at h.roomy in
       let is : pending next ≡ item_front m ++ b ∷ [] =
-      ap (λ i. end_front i m.deletes m.lead (literals_read m) (identities_read m)) lists ∙ ap (λ x. item_front m ++ x ∷ []) (sym e) in (
-        record {
-          room = h.room;
-          kept = h.kept;
-          number = h.number;
-          roomy = tt;
-          tracks = tracks_next m next states.Item at h b is (subst (λ x. Moves (BeforeItem m.deletes m.identity_count) x AtEnd) (sym e)
-              (item_zero m.deletes m.identity_count h.kept.few_identities));
-        },
-        pending_next m next states.Item at h b is,
-      )
+      ap (λ i. end_front i m.deletes m.lead (literals_read m) (identities_read m)) lists ∙ ap (λ x. item_front m ++ x ∷ []) (sym e) in
+      goes_on m next states.Item at h b h.room h.kept h.number tt is
+      (subst (λ x. Moves (BeforeItem m.deletes m.identity_count) x AtEnd) (sym e)
+      (item_zero m.deletes m.identity_count h.kept.few_identities))
 
   pub item_digit_goes_on : m.state ≡ states.Item → 49 ≤ b → b ≤ 57 → m.identity_count < 65536
       → GoesOn m b (record m { number = b - 48; digits = 1; state = states.Number })
   unfolding pending_at spot_at IsRoomy
   item_digit_goes_on at low high few =
       let next : PartialLine = record m { number = b - 48; digits = 1; state = states.Number } in
-      let is : pending next ≡ item_front m ++ b ∷ [] = ap (λ t. item_front m ++ t) (decimal_one b (omega arith, high)) in (
-        record {
-          room = h.room;
-          kept = h.kept;
-          number = first_digit b low high;
-          roomy = (few, subst (λ p. IsRoomy p m) at h.roomy);
-          tracks = tracks_next m next states.Item at h b is (item_digit m.deletes m.identity_count b low high);
-        },
-        pending_next m next states.Item at h b is,
-      )
+      let is : pending next ≡ item_front m ++ b ∷ [] = ap (λ t. item_front m ++ t) (decimal_one b (omega arith, high)) in
+      goes_on m next states.Item at h b h.room h.kept (first_digit b low high) (few, subst (λ p. IsRoomy p m) at h.roomy) is
+      (item_digit m.deletes m.identity_count b low high)
 
   pub item_too_long : m.state ≡ states.Item → 49 ≤ b → b ≤ 57 → m.identity_count ≡ 65536 → IsRefused (pending m ++ b ∷ []) TooLong
   unfolding spot_at
@@ -669,17 +547,9 @@ module _ (m : PartialLine) (b : ℕ) (h : IsPartialLine m) where
       let is : pending next ≡ (item_front m ++ decimal m.number) ++ b ∷ [] =
       ap (λ t. item_front m ++ t) (decimal_next m.number m.digits b h.number few digit)
       ∙ sym (append_assoc (item_front m) (decimal m.number) (b ∷ [])) in
-      let goes : GoesOn m b next = (
-        record {
-          room = h.room;
-          kept = h.kept;
-          number = more_digits m.number m.digits b h.number few digit;
-          roomy = subst (λ p. IsRoomy p m) at h.roomy;
-          tracks = tracks_next m next states.Number at h b is (number_digit m.deletes m.digits m.identity_count b digit);
-        },
-        pending_next m next states.Number at h b is,
-      ) in
-      subst (λ p. GoesOn m b (record next { state = p })) (sym at) goes
+      subst (λ p. GoesOn m b (record next { state = p })) (sym at)
+      (goes_on m next states.Number at h b h.room h.kept (more_digits m.number m.digits b h.number few digit)
+      (subst (λ p. IsRoomy p m) at h.roomy) is (number_digit m.deletes m.digits m.identity_count b digit))
 
   pub number_room : m.state ≡ states.Number → m.identity_count < vec_len m.identities
   unfolding IsRoomy
@@ -702,28 +572,20 @@ module _ (m : PartialLine) (b : ℕ) (h : IsPartialLine m) where
       ap numbers_text more ∙ text_more (λ n. decimal n ++ space ∷ []) (identities_read m) m.number in
       let is : pending next ≡ (item_front m ++ word) ++ b ∷ [] =
       list_more (list_front m.deletes m.lead (literals_read m)) (identities_read m) (identities_read next) (word ++ space ∷ []) texts
-      ∙ sym (append_assoc (item_front m) word (space ∷ [])) ∙ ap (λ x. (item_front m ++ word) ++ x ∷ []) (sym e) in (
-        record {
-          room = record {
-            literals = h.room.literals;
-            identities = ap length items ∙ length-set m.identities.items m.identity_count m.number ∙ count;
-          };
-          kept = record {
-            lead = h.kept.lead;
-            few_literals = h.kept.few_literals;
-            few_identities = omega arith;
-            literals = h.kept.literals;
-            identities = subst (AllByRecursion IsStreamNumber) (sym more)
-                (All-push IsStreamNumber (identities_read m) m.number h.kept.identities (positive m.number m.digits h.number));
-          };
-          number = h.number;
-          roomy = roomy.1;
-          tracks = tracks_next m next states.Number at h b is
-              (subst (λ x. Moves (InItem m.deletes m.digits m.identity_count) x (BeforeItem m.deletes (m.identity_count + 1))) (sym e)
-              (number_space m.deletes m.digits m.identity_count h.number.few));
-        },
-        pending_next m next states.Number at h b is,
-      )
+      ∙ sym (append_assoc (item_front m) word (space ∷ [])) ∙ ap (λ x. (item_front m ++ word) ++ x ∷ []) (sym e) in
+      goes_on m next states.Number at h b (record {
+        literals = h.room.literals;
+        identities = ap length items ∙ length-set m.identities.items m.identity_count m.number ∙ count;
+      }) (record {
+        lead = h.kept.lead;
+        few_literals = h.kept.few_literals;
+        few_identities = omega arith;
+        literals = h.kept.literals;
+        identities = subst (AllByRecursion IsStreamNumber) (sym more)
+            (All-push IsStreamNumber (identities_read m) m.number h.kept.identities (positive m.number m.digits h.number));
+      }) h.number roomy.1 is
+      (subst (λ x. Moves (InItem m.deletes m.digits m.identity_count) x (BeforeItem m.deletes (m.identity_count + 1))) (sym e)
+      (number_space m.deletes m.digits m.identity_count h.number.few))
 
   pub number_too_long : m.state ≡ states.Number → IsDigit b → 18 ≤ m.digits → IsRefused (pending m ++ b ∷ []) TooLong
   unfolding spot_at IsRoomy

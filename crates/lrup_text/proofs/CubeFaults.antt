@@ -90,8 +90,7 @@ rest_fault spot next byte after fault moves h read n few occurs =
 pub too_short : (read : List ℕ) (spot : Spot) → EndsAtSpot read spot → IsBounded spot → IsTextFault IsCubeLine (read ++ []) Spelling
 too_short read spot occurs bounded =
     let line = import_front ++ read in
-    subst (λ t. IsTextFault IsCubeLine t Spelling) (sym (append-nil read))
-    (inl (
+    rw (append-nil read) (inl (
       begins_cube standard standard_lifted read (tracks_begins line spot occurs bounded),
       λ cube.
           let whole = (texts_are_lines line).0 (line_of_cube standard standard_lifted read cube) in
@@ -108,8 +107,7 @@ too_much read byte after occurs = inr (record {
   is = sym (append_assoc read (line_feed ∷ []) (byte ∷ after));
   before = begins_cube standard standard_lifted line (
     [],
-    subst (λ t. IsLine standard (import_front ++ t)) (sym (append-nil line))
-        (occurs.line false standard standard_lifted (line_feed ∷ []) refl),
+    rw (append-nil line) (occurs.line false standard standard_lifted (line_feed ∷ []) refl),
   );
   none = λ h. never standard standard_lifted h.0 h.1;
   shortest = λ l. never l.0 l.1 l.2.0 l.2.1;
@@ -129,8 +127,7 @@ too_much read byte after occurs = inr (record {
 -- a text in which anything but LF follows the closing 0 is misspelled
 pub wrong_end : (read : List ℕ) (n : ℕ) (after : List ℕ) → EndsAtSpot read (BeforeLiteral true n) → n ≤ 65535 → ¬ (after ≡ line_feed ∷ [])
     → IsTextFault IsCubeLine (read ++ zero_digit ∷ after) Spelling
-wrong_end read n after occurs few other =
-    subst (λ t. IsTextFault IsCubeLine t Spelling) (append_assoc read (zero_digit ∷ []) after) (cases after other)
+wrong_end read n after occurs few other = rw (append_assoc read (zero_digit ∷ []) after) at (cases after other)
   where
     closed : List ℕ
     closed = read ++ zero_digit ∷ []

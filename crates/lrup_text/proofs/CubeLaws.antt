@@ -1,5 +1,5 @@
 -- The text of a cube has no fault.
-use Rattle.std.proofs.Common.{ℕ, ℤ, inl, inr, List, [], ◌∷◌, map, sym, ◌∙◌, subst}
+use Rattle.std.proofs.Common.{ℕ, ℤ, inl, inr, List, [], ◌∷◌, map, sym, ◌∙◌}
 use Rattle.std.specs.Fmt.{signed_decimal}
 use Rattle.std.proofs.lemmas.List.{append_assoc}
 use Rattle.lrup_text.specs.declared.cube.CubeFault.TheVariants.{Spelling, TooLong, Range, Memory}
@@ -14,8 +14,7 @@ text_is_line literals bytes text =
 
 -- each prefix of a cube's text may still become a cube's text
 none_breaks : (bytes : List ℕ) (Shortest : List ℕ → Type 0) → IsCubeLine standard bytes → BeginsNone IsCubeLine bytes Shortest → ⊥
-none_breaks bytes Shortest line h =
-    h.none (h.after, subst (IsCubeLine standard) (h.is ∙ sym (append_assoc h.read (h.byte ∷ []) h.after)) line)
+none_breaks bytes Shortest line h = h.none (h.after, rw (h.is ∙ sym (append_assoc h.read (h.byte ∷ []) h.after)) at line)
 
 pub text_has_no_fault : TextHasNoFault
 text_has_no_fault literals bytes Spelling text (inl early) = early.1 (text_is_line literals bytes text)

@@ -5,12 +5,10 @@ use Rattle.std.specs.Prelude.{Result, IfOk, IfErr, MatchResult}
 use Rattle.std.specs.Fmt.{decimal, signed_decimal}
 use Rattle.std.specs.List.{AllByRecursion}
 use Rattle.std.proofs.lemmas.List.{append_assoc, length-append}
-use Rattle.lrup_model.specs.Cube.{IsCubeOver}
 use Rattle.lrup_model.specs.lemmas.ListLemmas.{All-push}
 use Rattle.lrup_text.specs.declared.cube.CubeFault.{CubeFault}
 use Rattle.lrup_text.specs.declared.cube.CubeFault.TheVariants.{Spelling, TooLong, Range, Memory}
-use Rattle.lrup_text.specs.internal.CubeReading.{EndsAtSpot, import_front, IsRestFault, BeginsWithNumber, ReadsLiteral, AreKept}
-use Rattle.lrup_text.specs.internal.CubeReading.{AreNotKept}
+use Rattle.lrup_text.specs.internal.CubeReading.{EndsAtSpot, import_front, IsRestFault, BeginsWithNumber, ReadsLiteral, AreKept, AreNotKept}
 use Rattle.lrup_text.specs.Cubes.{IsCubeLine, IsLiteralsText, IsTextFault, IsCubeFault}
 use Rattle.lrup_text.specs.internal.ByteNames.{line_feed, zero_digit}
 use Rattle.lrup_text.specs.Writing.{space}
@@ -73,8 +71,7 @@ pub digits_fault : (first : ℕ) (after : List ℕ) (number digits : ℕ) (rest 
 digits_fault first after number digits rest fault so h read n few occurs =
     let here : EndsAtSpot (read ++ so.more) (InLiteral true digits n) =
     tracks_as (literal_digits (import_front ++ read) true 1 n so.more so.each occurs) refl (ap (λ k. InLiteral true k n) (sym so.size)) in
-    subst (λ t. IsTextFault IsCubeLine t fault) (append_assoc read so.more rest ∙ ap (λ t. read ++ t) (sym so.is))
-    (h (read ++ so.more) n few here)
+    rw (append_assoc read so.more rest ∙ ap (λ t. read ++ t) (sym so.is)) at (h (read ++ so.more) n few here)
 
 -- Literals.
 
@@ -127,11 +124,6 @@ module _ {T : Type 0} (items : T → List ℤ) (vars : ℕ) (literals : List ℤ
       → IfOk r (λ kept. IsLiteralsText (items kept) text)
   kept_text (Ok kept) h = subst (λ zs. IsLiteralsText zs text) (sym h.0) is
   kept_text (Err fault) h = tt
-
-  pub kept_over : (r : Result T CubeFault) → MatchResult r (λ kept. AreKept vars literals (items kept)) (AreNotKept vars literals)
-      → IfOk r (λ kept. IsCubeOver vars (items kept))
-  kept_over (Ok kept) h = subst (IsCubeOver vars) (sym h.0) h.1
-  kept_over (Err fault) h = tt
 
   pub kept_fault : (r : Result T CubeFault) → MatchResult r (λ kept. AreKept vars literals (items kept)) (AreNotKept vars literals)
       → IfErr r (IsCubeFault vars text)

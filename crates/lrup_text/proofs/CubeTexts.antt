@@ -7,7 +7,7 @@ use Rattle.lrup_model.specs.Literal.{IsLiteral}
 use Rattle.lrup_text.specs.Cubes.{IsLiteralsText, IsCubeText, CubeTextIsRead}
 use Rattle.lrup_text.specs.internal.ByteNames.{line_feed}
 use Rattle.lrup_text.specs.Lines.{IsStreamLiteral}
-use Rattle.lrup_text.specs.internal.Reading.{words_text, literals_text}
+use Rattle.lrup_text.specs.internal.Reading.{words_text}
 use Rattle.lrup_text.proofs.Bytes.{words_end}
 
 stream_literal : (vars : ℕ) → vars < 10 ^ 18 → (z : ℤ) → IsLiteral vars z → IsStreamLiteral z

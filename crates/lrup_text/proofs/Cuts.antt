@@ -14,9 +14,9 @@ use Rattle.lrup_text.specs.internal.ByteNames.{line_feed, minus, zero_digit, let
 use Rattle.lrup_text.specs.Writing.{space}
 use Rattle.lrup_text.specs.Grammar.{IsDigit, IsLine, standard}
 use Rattle.lrup_text.specs.Laws.{BeginningCut, EveryCut}
-use Rattle.lrup_text.specs.Lines.{StreamLine, IsWithinLimits, line_text, HasNoLine, Cut, IsPending}
+use Rattle.lrup_text.specs.Lines.{StreamLine, IsWithinLimits, line_text, Cut, IsPending}
 use Rattle.lrup_text.specs.internal.Rests.{Spot, AtStart, InLead, AfterImport, BeforeLiteral, AfterMinus, InLiteral, BeforeList}
-use Rattle.lrup_text.specs.internal.Rests.{BeforeItem, InItem, AtEnd, MayComplete, Tracks, Moves, Blocks, Allows}
+use Rattle.lrup_text.specs.internal.Rests.{BeforeItem, InItem, AtEnd, Tracks, Moves, Blocks, Allows}
 use Rattle.lrup_text.proofs.Decisions.{decides_spelling, decides_long, decides_rat}
 use Rattle.lrup_text.proofs.Steps.{IsBounded, Exceeds, NoFirst, NoDigit, at_start, start_digit, lead_digit, lead_space, body_hints}
 use Rattle.lrup_text.proofs.Steps.{body_end, body_deletion, body_import, import_space, import_blocks, body_minus, body_digit, minus_digit}
@@ -175,12 +175,11 @@ front_from : (read : List ℕ) (spot : Spot) → Tracks read spot → IsBounded 
 front_from read spot tracks bounded [] = subst Front (sym (append-nil read)) (part (tracks_pending read spot tracks bounded))
 front_from read spot tracks bounded (b ∷ bytes) = elim (byte_at spot b bounded) [
   | moves next step small ↦
-      subst Front (one_more read b bytes) (front_from (read ++ b ∷ []) next (tracks_more read spot next b tracks step) small bytes)
+      rw (one_more read b bytes) at (front_from (read ++ b ∷ []) next (tracks_more read spot next b tracks step) small bytes)
   | blocked stops ↦ decided Spelling (decides_spelling read spot b tracks bounded stops)
   | exceeds long ↦ decided TooLong (decides_long read spot b tracks bounded long)
   | signed_hint stops allows ↦ decided RatHint (decides_rat read spot b tracks bounded stops allows)
-  | ends_line here is ↦ line
-      (tracks.line false standard standard_lifted (b ∷ []) (subst (λ s. MayComplete standard s (b ∷ [])) (sym here) (ap (λ x. x ∷ []) is)))
+  | ends_line here is ↦ line (tracks.line false standard standard_lifted (b ∷ []) (rw here (ap (λ x. x ∷ []) is)))
 ]
   where
     decided : (fault : LineFault) → IsRefused (read ++ b ∷ []) fault → Front (read ++ b ∷ bytes)
@@ -224,8 +223,7 @@ cut_up_to (suc most) stream few = elim (front_of stream) [
       let size : length stream ≡ length (line_text line) + length more = ap length is ∙ length-append (line_text line) more in
       cut_more line stream more fits is (cut_up_to most more (omega (arith, text_some line fits)))
   | part pending ↦ ([], stream, record { bytes = refl; each = tt; last = pending.whole })
-  | faulty fault h ↦
-      ([], stream, record { bytes = refl; each = tt; last = subst HasNoLine (sym h.2) (refused_stays h.0 h.1 fault h.3) })
+  | faulty fault h ↦ ([], stream, record { bytes = refl; each = tt; last = rw h.2 (refused_stays h.0 h.1 fault h.3) })
 ]
 
 pub every_cut : EveryCut

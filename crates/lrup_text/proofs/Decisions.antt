@@ -9,8 +9,7 @@ use Rattle.lrup_text.proofs.Steps.{IsBounded, Exceeds, one_more, standard_lifted
 
 module _ (read : List ℕ) (spot : Spot) (b : ℕ) (tracks : Tracks read spot) (bounded : IsBounded spot) where
   begins_none : (signed : Bool) → Blocks signed spot b → ¬ BeginsLifted signed (read ++ b ∷ [])
-  begins_none signed blocks h =
-      blocks h.0 h.2 h.1 (tracks.completes signed h.0 h.2 (b ∷ h.1) (subst (IsLine h.0) (one_more read b h.1) h.3))
+  begins_none signed blocks h = blocks h.0 h.2 h.1 (tracks.completes signed h.0 h.2 (b ∷ h.1) (rw (one_more read b h.1) at h.3))
 
   begins_lifted : (signed : Bool) → Allows signed spot b → BeginsLifted signed (read ++ b ∷ [])
   begins_lifted signed allows = (

@@ -36,9 +36,7 @@ module _ (m next : PartialLine) (piece : List ℕ) (used : ℕ) where
 pub fed_at : {old old' new new' : ReaderState} {status status' : ReaderStatus} (piece : List ℕ) (used : ℕ)
     → Fed old' piece used status' new'
     → old' ≡ old → status ≡ status' → new ≡ new' → Fed old piece used status new
-fed_at {old} {old'} {new} {new'} {status} {status'} piece used h o t n =
-    subst (λ x. Fed x piece used status new) o
-    (subst (λ x. Fed old' piece used x new) (sym t) (subst (λ x. Fed old' piece used status' x) (sym n) h))
+fed_at {old} {old'} {new} {new'} {status} {status'} piece used h o t n = rw (← n, ← t, o) at h
 
 -- the state of a reader without a fault is the text that it has read
 pub no_fault : {state : ReaderState} {fault : Option LineFault} (m : PartialLine) → reader_state fault (pending m) ≡ state → fault ≡ None

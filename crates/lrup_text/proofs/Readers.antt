@@ -1,8 +1,8 @@
 -- A line that is read in parts: at its beginning, between pieces, and through a piece.
-use Rattle.std.proofs.Common.{◌≡◌, ◌≢◌, ℕ, ℤ, ◌+◌, ◌<◌, ◌≤◌, Bool, true, false, List, [], ◌∷◌, ◌++◌, length, take, drop, get_or, refl, sym}
+use Rattle.std.proofs.Common.{◌≡◌, ◌≢◌, ℕ, ℤ, ◌+◌, ◌<◌, Bool, true, false, List, [], ◌∷◌, ◌++◌, length, take, drop, get_or, refl, sym}
 use Rattle.std.proofs.Common.{◌∙◌, ap, subst, arith}
 use Rattle.std.specs.Fmt.{decimal}
-use Rattle.std.proofs.lemmas.List.{append_assoc, append-nil, length-drop, take_more, take_all}
+use Rattle.std.proofs.lemmas.List.{append_assoc, append-nil, length-drop, take_more}
 use Rattle.std.proofs.Math.Seq.{take-add}
 use Rattle.lrup_text.specs.declared.partial_line.ParserState.{ParserState}
 use Rattle.lrup_text.specs.declared.partial_line.ParserState.TheVariants as states
@@ -15,8 +15,7 @@ use Rattle.lrup_text.specs.internal.ByteNames.{minus, zero_digit, letter_i}
 use Rattle.lrup_text.specs.Grammar.{SpellsNumber}
 use Rattle.lrup_text.specs.Lines.{IsPending, IsStreamNumber, LineText}
 use Rattle.lrup_text.specs.internal.Reading.{HasRoom, FitsDigits, CanOccurInLine, IsPartialLine, ReadsAhead, ReadsByte, StepsThrough}
-use Rattle.lrup_text.specs.internal.Reading.{pending_at}
-use Rattle.lrup_text.specs.internal.Reading.{spot_at, pending, IsRoomy, line_so_far, clause_front, list_front, item_front, end_front}
+use Rattle.lrup_text.specs.internal.Reading.{pending_at, spot_at, pending, IsRoomy, line_so_far, clause_front, list_front, end_front}
 use Rattle.lrup_text.specs.internal.Reading.{literal_front, literals_text, numbers_text, literals_read, identities_read}
 use Rattle.lrup_text.proofs.Bytes.{bounded, below_limit}
 use Rattle.lrup_text.proofs.TextLaws.{tracks_pending}
@@ -107,15 +106,13 @@ pub restarts : (next : PartialLine) (lits : List ℤ) (ids : List ℕ) → next.
     → IsPartialLine next × (pending next ≡ [])
 restarts next lits ids at lits_are ids_are room_lits room_ids kept number =
     start_reads next at (record { literals = ap length lits_are ∙ room_lits; identities = ap length ids_are ∙ room_ids })
-    (subst (λ x. CanOccurInLine next.lead x next.literal_count next.identities.items next.identity_count) (sym lits_are)
-    (subst (λ x. CanOccurInLine next.lead lits next.literal_count x next.identity_count) (sym ids_are) kept)) number
+    (rw (lits_are, ids_are) kept) number
 
 -- the result for a piece depends only on the text read before
 pub steps_from : (old other : PartialLine) (piece : List ℕ) (used : ℕ) (step : ByteStep) (new : PartialLine) → pending other ≡ pending old
     → StepsThrough other piece used step new → StepsThrough old piece used step new
 steps_from old other piece used More new same h = (h.0, h.1, h.2 ∙ ap (λ t. t ++ piece) same)
-steps_from old other piece used Done new same h =
-    (h.0, h.1, h.2, h.3, subst (λ t. LineText (line_so_far new) (t ++ take used piece)) same h.4)
+steps_from old other piece used Done new same h = (h.0, h.1, h.2, h.3, rw same at h.4)
 steps_from old other piece used (Refused fault) new same h = (h.0, h.1, subst (λ t. IsRefused (t ++ take used piece) fault) same h.2)
 
 -- reading a part of a piece, and then a part of the rest, is reading both parts of the piece
@@ -152,7 +149,3 @@ steps_byte old mid new piece used byte Done h inside is ends k =
     (omega arith, omega arith, k.0, k.1, subst (LineText (line_so_far new)) (byte_after old mid piece used byte h.is inside is) k.2)
 steps_byte old mid new piece used byte (Refused fault) h inside is ends k =
     (omega arith, omega arith, subst (λ t. IsRefused t fault) (byte_after old mid piece used byte h.is inside is) k)
-
-pub takes_all : (old new : PartialLine) (piece : List ℕ) (used : ℕ) → ReadsAhead old piece used new → length piece ≤ used
-    → StepsThrough old piece used More new
-takes_all old new piece used h all = (omega (arith, h.bound), h.reads, h.is ∙ ap (λ t. pending old ++ t) (take_all used piece all))

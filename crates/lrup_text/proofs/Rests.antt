@@ -177,7 +177,7 @@ module _ (limits : Limits) (imports : Bool) (n b : ℕ) (rest after : List ℕ) 
       let same : b ≡ c = same_head is in
       let next : ClauseFollows limits imports (n + 1) (clause_text ws after) =
       record { words = ws; count = count; each = each; after = after; is = refl; end = end } in
-      numbers (subst (λ x. 49 ≤ x) (sym same) h.0) (subst (λ x. x ≤ 57) (sym same) h.1) (omega arith)
+      numbers (rw same h.0) (rw same h.1) (omega arith)
       (number_word limits _ c cs (clause_text ws after) rest h (same_tail is) next)
   literal_word (c ∷ []) ws (inr h) each count is = absurd h.1
   literal_word (c ∷ d ∷ ds) ws (inr h) each count is =
@@ -185,8 +185,7 @@ module _ (limits : Limits) (imports : Bool) (n b : ℕ) (rest after : List ℕ) 
       record { words = ws; count = count; each = each; after = after; is = refl; end = end } in
       let number : NumberFollows limits (ClauseFollows limits imports (n + 1)) (d ∷ (ds ++ space ∷ clause_text ws after)) =
       number_from limits _ d _ h.1.0 h.1.1 (number_word limits _ d ds (clause_text ws after) _ h.1 refl next) in
-      signs (same_head is ∙ h.0) (omega arith)
-      (subst (NumberFollows limits (ClauseFollows limits imports (n + 1))) (sym (same_tail is)) number)
+      signs (same_head is ∙ h.0) (omega arith) (rw (same_tail is) number)
 
   clause_words : (ws : List (List ℕ)) → AllByRecursion (SpellsLiteral limits.digits) ws → n + length ws ≤ limits.literals
       → b ∷ rest ≡ clause_text ws after → ClauseTo limits imports n b rest
@@ -275,9 +274,7 @@ line_to limits bytes line = cases line.0 line.1 line.2
     start : (word after : List ℕ) → SpellsNumber limits.digits word → bytes ≡ word ++ space ∷ after → BodyFollows limits false 0 after
         → NumberFollows limits (BodyFollows limits false 0) bytes
     start [] after h is body = absurd h
-    start (c ∷ cs) after h is body =
-        subst (NumberFollows limits (BodyFollows limits false 0)) (sym is)
-        (number_from limits _ c _ h.0 h.1 (number_word limits _ c cs after _ h refl body))
+    start (c ∷ cs) after h is body = rw is (number_from limits _ c _ h.0 h.1 (number_word limits _ c cs after _ h refl body))
 
     cases : (words : Words) → AreWordsWithin limits words → bytes ≡ text words → NumberFollows limits (BodyFollows limits false 0) bytes
     cases (Adds id lits hints) h is =

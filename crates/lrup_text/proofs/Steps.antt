@@ -186,8 +186,7 @@ list_space deletes = record { to = λ signed limits lifted rest h. h; from = λ 
 pub item_zero : (deletes : Bool) (j : ℕ) → j ≤ 65536 → Moves (BeforeItem deletes j) zero_digit AtEnd
 item_zero deletes j few = record {
   to = λ signed limits lifted rest h. item limits rest (item_to limits deletes j 48 rest h);
-  from = λ signed limits lifted rest h. subst (λ t. ListFollows limits deletes j (space ∷ zero_digit ∷ t)) (sym h)
-      (item_from_zero limits deletes j (omega (arith, lifted.identities)));
+  from = λ signed limits lifted rest h. rw h (item_from_zero limits deletes j (omega (arith, lifted.identities)));
 }
   where
     item : (limits : Limits) (rest : List ℕ) → rests.ItemTo limits deletes j 48 rest → rest ≡ line_feed ∷ []

@@ -219,17 +219,15 @@ shorter (c ∷ p) (d ∷ q) x y b e = elim (shorter p q x y b (same_tail e)) [
 faults_same : (bytes : List ℕ) (fault other : LineFault) → IsLineFaultOf bytes fault → IsLineFaultOf bytes other → fault ≡ other
 faults_same bytes Spelling Spelling a b = refl
 faults_same bytes Spelling TooLong a b = absurd (a.0 b)
-faults_same bytes Spelling Truncated a b = absurd b
 faults_same bytes Spelling RatHint a b = absurd (a.1 b.1)
 faults_same bytes TooLong Spelling a b = absurd (b.0 a)
 faults_same bytes TooLong TooLong a b = refl
-faults_same bytes TooLong Truncated a b = absurd b
 faults_same bytes TooLong RatHint a b = absurd (b.0 a)
 faults_same bytes Truncated other a b = absurd a
 faults_same bytes RatHint Spelling a b = absurd (b.1 a.1)
 faults_same bytes RatHint TooLong a b = absurd (a.0 b)
-faults_same bytes RatHint Truncated a b = absurd b
 faults_same bytes RatHint RatHint a b = refl
+faults_same bytes _ Truncated a b = absurd b
 
 -- a text and what follows it, split before the text's last byte
 last_apart : (bytes p : List ℕ) (b : ℕ) (x : List ℕ) → bytes ≡ p ++ b ∷ [] → bytes ++ x ≡ p ++ b ∷ x
@@ -239,11 +237,9 @@ refused_same : (bytes others x y : List ℕ) (fault other : LineFault) → IsRef
     → bytes ++ x ≡ others ++ y → fault ≡ other
 refused_same bytes others x y fault other h k e =
     elim (shorter h.read k.read (h.byte ∷ x) y k.byte e') [
-      | inl longer ↦ absurd
-          (k.after (subst Begins (sym k.is) (begins_before (k.read ++ k.byte ∷ []) longer.0 (subst Begins longer.1 h.before.begins))))
+      | inl longer ↦ absurd (k.after (rw k.is (begins_before (k.read ++ k.byte ∷ []) longer.0 (rw longer.1 at h.before.begins))))
       | inr more ↦ elim (shorter k.read h.read (k.byte ∷ y) x h.byte (sym e')) [
-        | inl longer ↦ absurd
-            (h.after (subst Begins (sym h.is) (begins_before (h.read ++ h.byte ∷ []) longer.0 (subst Begins longer.1 k.before.begins))))
+        | inl longer ↦ absurd (h.after (rw h.is (begins_before (h.read ++ h.byte ∷ []) longer.0 (rw longer.1 at k.before.begins))))
         | inr back ↦ alike more.0 back.0 more.1 back.1
       ]
     ]
@@ -303,34 +299,25 @@ cut_call : (stream : List ℕ) (lines : List StreamLine) (old new : ReaderState)
     → IsCut stream lines old → Feeds old piece used status → ReaderReaches old piece status new
     → IsCut (stream ++ take used piece) (lines ++ line_given status) new
 cut_call stream lines (Err fault) new piece used status cut gives reaches =
-    let given : new ≡ Err fault = subst (λ t. ReaderReaches (Err fault) piece t new) gives.1 reaches in
+    let given : new ≡ Err fault = rw gives.1 at reaches in
     let nothing : stream ++ take used piece ≡ stream = ap (λ k. stream ++ take k piece) gives.0 ∙ append-nil stream in
     let no_lines : lines ++ line_given status ≡ lines = ap (λ t. lines ++ line_given t) gives.1 ∙ append-nil lines in
-    subst (λ x. IsCut (stream ++ take used piece) (lines ++ line_given status) x) (sym given)
-    (subst (λ x. IsCut x (lines ++ line_given status) (Err fault)) (sym nothing)
-    (subst (λ x. IsCut stream x (Err fault)) (sym no_lines) cut))
+    rw (given, nothing, no_lines) cut
 cut_call stream lines (Ok read) new piece used (Line line) cut gives reaches =
-    subst (λ x. IsCut (stream ++ take used piece) (lines ++ line_of line ∷ []) x) (sym reaches.0)
-    (cut_line stream lines read (take used piece) (line_of line) cut gives.2 reaches.1.whole)
+    rw reaches.0 (cut_line stream lines read (take used piece) (line_of line) cut gives.2 reaches.1.whole)
 cut_call stream lines (Ok read) new piece used NeedMore cut gives reaches =
     let all : take used piece ≡ piece = ap (λ k. take k piece) gives ∙ take_all (length piece) piece (omega arith) in
-    subst (λ x. IsCut (stream ++ take used piece) (lines ++ []) x) (sym reaches.0)
-    (subst (λ x. Cut (stream ++ x) (lines ++ []) (read ++ piece)) (sym all) (cut_longer stream lines read piece cut reaches.1.whole))
+    rw (reaches.0, all) (cut_longer stream lines read piece cut reaches.1.whole)
 cut_call stream lines (Ok read) new piece used (Fault fault) cut gives reaches =
-    subst (λ x. IsCut (stream ++ take used piece) (lines ++ []) x) (sym reaches)
-    (read ++ take used piece, cut_longer stream lines read (take used piece) cut (refused_no_line _ fault gives.2), gives.2)
+    rw reaches (read ++ take used piece, cut_longer stream lines read (take used piece) cut (refused_no_line _ fault gives.2), gives.2)
 
 pub empty_cut : EmptyCut
 empty_cut = record { bytes = refl; each = tt; last = empty_pending.whole }
 
 pub calls_cut : CallsCut
-calls_cut stream lines old new [] cut same =
-    subst (λ x. IsCut (stream ++ []) (lines ++ []) x) (sym same)
-    (subst (λ x. IsCut x (lines ++ []) old) (sym (append-nil stream)) (subst (λ x. IsCut stream x old) (sym (append-nil lines)) cut))
+calls_cut stream lines old new [] cut same = rw (same, append-nil stream, append-nil lines) cut
 calls_cut stream lines old new (call ∷ calls) cut h =
     let next = cut_call stream lines old h.0 call.piece call.used call.status cut h.1 h.2 in
     let all = calls_cut (stream ++ take call.used call.piece) (lines ++ line_given call.status) h.0 new calls next h.3 in
-    subst (λ x. IsCut x (lines ++ (line_given call.status ++ lines_given calls)) new)
-    (append_assoc stream (take call.used call.piece) (used_bytes calls))
-    (subst (λ x. IsCut ((stream ++ take call.used call.piece) ++ used_bytes calls) x new)
-    (append_assoc lines (line_given call.status) (lines_given calls)) all)
+    rw (append_assoc lines (line_given call.status) (lines_given calls), append_assoc stream (take call.used call.piece) (used_bytes calls))
+    at all

@@ -1,5 +1,5 @@
 -- A whole line, read in one go.
-use Rattle.std.proofs.Common.{◌≡◌, ◌≢◌, ℕ, ℤ, unsigned_abs, ◌+◌, ◌-◌, ◌*◌, ◌%◌, ◌^◌, ◌<◌, ◌≤◌, inl, inr, Bool, true, false, List, [], ◌∷◌}
+use Rattle.std.proofs.Common.{◌≡◌, ℕ, ℤ, unsigned_abs, ◌+◌, ◌-◌, ◌*◌, ◌%◌, ◌^◌, ◌<◌, ◌≤◌, inl, inr, Bool, true, false, List, [], ◌∷◌}
 use Rattle.std.proofs.Common.{◌++◌, length, take, get_or, set, refl, sym, ◌∙◌, ap, subst, arith}
 use Rattle.std.specs.Fmt.{decimal, signed_decimal}
 use Rattle.std.specs.List.{AllByRecursion}
@@ -22,16 +22,6 @@ inside_word text at ends inside above = elim (cases_lt (at + 1) (length text)) [
   | inl less ↦ less
   | inr least ↦ let last : at ≡ length text - 1 = omega arith in
       absurd (omega (arith, ends.1, subst (λ k. space < get_or text k 0) last above))
-]
-
-pub line_ends_word : (line : List ℕ) → EndsLine line → EndsWord line
-line_ends_word line ends = (ends.0, omega (arith, ends.1))
-
--- a byte other than LF isn't the last byte
-pub inside_more : (line : List ℕ) (at : ℕ) → EndsLine line → at < length line → get_or line at 0 ≢ line_feed → at + 1 < length line
-inside_more line at ends inside ne = elim (cases_lt (at + 1) (length line)) [
-  | inl less ↦ less
-  | inr least ↦ let last : at ≡ length line - 1 = omega arith in absurd (ne (ap (λ k. get_or line k 0) last ∙ ends.1))
 ]
 
 -- The digits of a number from `start` up to `end`.
@@ -66,8 +56,7 @@ more_so_far line start number end next ends so low high is =
           let less : end - start < 18 = omega (arith, one) in
           let old = so.exact (omega (arith, less)) in
           let number_is = is less in (
-            subst (FitsDigits next) (sym one) (subst (λ n. FitsDigits n ((end - start) + 1)) (sym number_is)
-                (more_digits number (end - start) byte old.0 less (low, high))),
+            rw (one, number_is) (more_digits number (end - start) byte old.0 less (low, high)),
             take_more line end 0 so.inside ∙ ap (λ t. t ++ byte ∷ []) old.1 ∙ append_assoc (take start line) (decimal number) (byte ∷ [])
                 ∙ ap (λ t. take start line ++ t)
                 (sym (ap decimal number_is ∙ decimal_next number (end - start) byte old.0 less (low, high))),

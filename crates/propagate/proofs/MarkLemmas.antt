@@ -128,12 +128,11 @@ marked_before (x ∷ marks) (suc i) (suc k) h = marked_before marks i k h
 pub cleared-next : (marks : List Bool) (ls : List ℤ) (k view : ℕ) (x : ℤ) → k < length ls → x ≡ get_or ls k x → view ≡ code_of x
     → ((l : ℤ) → Has (take k ls) l → get_or marks (code_of l) false ≡ false) → (l : ℤ) → Has (take (k + 1) ls) l
     → get_or (set marks view false) (code_of l) false ≡ false
-cleared-next marks ls k view x lt at e cleared l h =
-    elim (Has-push_cases (take k ls) x l (subst (λ m. Has m l) (take-read ls k x lt at) h)) [
-      | inl t ↦ false_from_ne_true (get_or (set marks view false) (code_of l) false)
-          (λ set. false≢true (sym (cleared l t) ∙ marked_before marks view (code_of l) set))
-      | inr same ↦ ap (λ j. get_or (set marks view false) j false) (ap code_of (sym same) ∙ sym e) ∙ cleared-at marks view
-    ]
+cleared-next marks ls k view x lt at e cleared l h = elim (Has-push_cases (take k ls) x l (rw (take-read ls k x lt at) at h)) [
+  | inl t ↦ false_from_ne_true (get_or (set marks view false) (code_of l) false)
+      (λ set. false≢true (sym (cleared l t) ∙ marked_before marks view (code_of l) set))
+  | inr same ↦ ap (λ j. get_or (set marks view false) j false) (ap code_of (sym same) ∙ sym e) ∙ cleared-at marks view
+]
 
 -- a literal of a clause is still a literal over more variables
 pub IsLiteral-read : (vars more : ℕ) (d : List ℤ) (l : ℤ) → IsClause vars d → vars ≤ more → Has d l → IsLiteral more l

@@ -11,10 +11,6 @@ use Rattle.propagate.specs.declared.marks.ClauseStatus.{ClauseStatus}
 use Rattle.propagate.specs.declared.marks.ClauseStatus.TheVariants.{Nothing, One, More}
 use Rattle.lrup_model.specs.lemmas.ClauseLemmas.{Has-append_left, Has-push, Has-push_cases, Has-take, Has-at, Has-before, take-next}
 
--- a clause without literals is a conflict
-pub IsConflict-nil : (n : List ℤ) → IsConflict n []
-IsConflict-nil n = λ l h. absurd h
-
 -- if a clause is neither unit nor a conflict, it is still neither with more literals
 pub HasStatus-more : (n : List ℤ) (d e : Clause) → HasStatus n d More → HasStatus n (d ++ e) More
 HasStatus-more n d e more = (
@@ -83,8 +79,7 @@ pub HasStatus-next : (n : List ℤ) (d : Clause) (k : ℕ) (x : ℤ) (status aft
     → HasStatus n (take k d) status → ((e : Clause) → HasStatus n e status → (¬ Has e x) → HasStatus n (e ++ x ∷ []) after)
     → HasStatus n (take (k + 1) d) after
 HasStatus-next n d k x status after once at before step =
-    subst (λ e. HasStatus n e after) (sym (ap (λ i. take i d) (add-one k) ∙ take-next d k x at))
-    (step (take k d) before (Has-before d k x once at))
+    rw (ap (λ i. take i d) (add-one k) ∙ take-next d k x at) (step (take k d) before (Has-before d k x once at))
 
 -- if the first literals of a clause make it neither unit nor a conflict, the whole clause is
 -- neither
@@ -112,18 +107,12 @@ HasStatus-single n d i status past before =
     let short = ends-at d (2 * i + 1) past in
     subst (λ e. HasStatus n e status) (take_all (2 * i + 1) d short ∙ sym (take_all (2 * (i + 1)) d (omega (arith, short)))) before
 
--- the status of the whole clause, after all pairs
-pub HasStatus-all : (n : List ℤ) (d : Clause) (k : ℕ) (status : ClauseStatus) → length d ≤ k → HasStatus n (take k d) status
-    → HasStatus n d status
-HasStatus-all n d k status short before = subst (λ e. HasStatus n e status) (take_all k d short) before
-
 -- one more false literal doesn't change the status
 HasStatus-passed : (n : List ℤ) (d : Clause) (k : ℕ) (x : ℤ) (status : ClauseStatus) → slice_get d k ≡ Some x → Has n x
     → HasStatus n (take k d) status
     → HasStatus n (take (k + 1) d) status
 HasStatus-passed n d k x status at is_false before =
-    subst (λ e. HasStatus n e status) (sym (ap (λ i. take i d) (add-one k) ∙ take-next d k x at))
-    (HasStatus-false n (take k d) status x before is_false)
+    rw (ap (λ i. take i d) (add-one k) ∙ take-next d k x at) (HasStatus-false n (take k d) status x before is_false)
 
 -- a pair of false literals, or one false literal, doesn't change the status
 pub HasStatus-pair : (n : List ℤ) (d : Clause) (i : ℕ) (x : ℤ) (second : Option ℤ) (status : ClauseStatus) → slice_get d (2 * i) ≡ Some x

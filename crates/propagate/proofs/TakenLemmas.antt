@@ -30,21 +30,6 @@ marked-set marks x lt l =
           )
     ]
 
--- a mark is cleared
-pub marked-reset : (marks : List Bool) (x : ℤ) → code_of x < length marks → (l : ℤ)
-    → IsMarked (set marks (code_of x) false) l ↔ (IsMarked marks l × (¬ (l ≡ x)))
-marked-reset marks x lt l =
-    elim (int_cases l x) [
-      | inl e ↦ (
-        (λ h. absurd
-            (false≢true (sym (get_or-set_same marks (code_of x) false false lt) ∙ subst (IsMarked (set marks (code_of x) false)) e h))),
-        (λ h. absurd (h.1 e)),
-      )
-      | inr ne ↦
-          let same = get_or-set_other marks (code_of x) (code_of l) false false (λ e. ne (code_of-injective l x e)) in
-          ((λ h. (sym same ∙ h, ne)), (λ h. same ∙ h.0))
-    ]
-
 -- the mark of one more literal of a list is set
 pub marked-next : (before marks : List Bool) (ls : List ℤ) (x : ℤ) → code_of x < length marks
     → ((l : ℤ) → IsMarked marks l ↔ (IsMarked before l ⊎ Has ls l)) → (l : ℤ)
@@ -59,10 +44,6 @@ marked-next before marks ls x lt are l = (
     | inr g ↦ elim (Has-push_cases ls x l g) [ inl t ↦ inl ((are l).1 (inr t)) | inr e ↦ inr e ]
   ])),
 )
-
--- no marks are cleared
-pub AreTaken-nil : (marks : List Bool) → AreTaken marks marks []
-AreTaken-nil marks = record { marked = λ l h. absurd h; left = λ l. ((λ h. (h, λ g. g)), (λ h. h.0)) }
 
 -- one more mark is cleared
 AreTaken-push : (before marks after : List Bool) (ls : List ℤ) (x : ℤ) → AreTaken before marks ls → IsMarked marks x
@@ -84,8 +65,7 @@ pub AreTaken-next : (before marks after : List Bool) (d : List ℤ) (k : ℕ) (x
     → AreTaken before marks (take k d) → IsMarked marks x → ((l : ℤ) → IsMarked after l ↔ (IsMarked marks l × (¬ (l ≡ x))))
     → AreTaken before after (take (k + 1) d)
 AreTaken-next before marks after d k x at are here one =
-    subst (AreTaken before after) (sym (ap (λ i. take i d) (add-one k) ∙ take-next d k x at))
-    (AreTaken-push before marks after (take k d) x are here one)
+    rw (ap (λ i. take i d) (add-one k) ∙ take-next d k x at) (AreTaken-push before marks after (take k d) x are here one)
 
 -- the mark of the second literal of a pair is cleared
 pub AreTaken-second : (before marks after : List Bool) (d : List ℤ) (i : ℕ) (x : ℤ) → slice_get d (2 * i + 1) ≡ Some x
@@ -142,18 +122,14 @@ pub marked-read_next : (before marks : List Bool) (ls : List ℤ) (k place : ℕ
     → ((l : ℤ) → IsMarked marks l ↔ (IsMarked before l ⊎ Has (take k ls) l)) → (l : ℤ)
     → IsMarked (set marks place true) l ↔ (IsMarked before l ⊎ Has (take (k + 1) ls) l)
 marked-read_next before marks ls k place x lt at e have count are l =
-    let inside : code_of x < length marks =
-    subst (λ n. code_of x < n) (sym count) (All-read (λ y. code_of y < length before) ls k x have lt at) in
-    subst (λ j. IsMarked (set marks j true) l ↔ (IsMarked before l ⊎ Has (take (k + 1) ls) l)) (sym e)
-    (subst (λ m. IsMarked (set marks (code_of x) true) l ↔ (IsMarked before l ⊎ Has m l)) (sym (take-read ls k x lt at))
-    (marked-next before marks (take k ls) x inside are l))
+    let inside : code_of x < length marks = rw count (All-read (λ y. code_of y < length before) ls k x have lt at) in
+    rw (e, take-read ls k x lt at) (marked-next before marks (take k ls) x inside are l)
 
 -- literals over the variables have marks
 pub HaveMarks-literals : (vars : ℕ) (marks : List Bool) (ls : List ℤ) → length marks ≡ 2 * vars + 2 → AllByRecursion (IsLiteral vars) ls
     → HaveMarks marks ls
 HaveMarks-literals vars marks ls count all =
-    All-from_Has (λ l. code_of l < length marks) ls
-    (λ l h. subst (λ n. code_of l < n) (sym count) (code_of-lt vars l (All-Has (IsLiteral vars) ls l all h)))
+    All-from_Has (λ l. code_of l < length marks) ls (λ l h. rw count (code_of-lt vars l (All-Has (IsLiteral vars) ls l all h)))
 
 -- the clause and the list have the same literals exactly if no literal of the list is still marked
 pub same-known : (before first marks : List Bool) (d ls : List ℤ) (any : Bool)

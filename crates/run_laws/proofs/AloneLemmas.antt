@@ -31,11 +31,9 @@ pub judged_whole : FinishedStays
     → JudgesBlocks c whole end blocks report
 judged_whole law c (Some its) bytes whole end blocks report is j = subst (λ b. JudgesBlocks c b end blocks report) (sym is.0) (j end is.1)
 judged_whole law c None bytes whole stream_ends.Ended blocks report is j =
-    subst (λ b. JudgesBlocks c b stream_ends.Ended blocks report) (sym is.1)
-    (law c bytes is.0 blocks report (j stream_ends.Ended tt, j stream_ends.Failed tt)).0
+    rw is.1 (law c bytes is.0 blocks report (j stream_ends.Ended tt, j stream_ends.Failed tt)).0
 judged_whole law c None bytes whole stream_ends.Failed blocks report is j =
-    subst (λ b. JudgesBlocks c b stream_ends.Failed blocks report) (sym is.1)
-    (law c bytes is.0 blocks report (j stream_ends.Ended tt, j stream_ends.Failed tt)).1
+    rw is.1 (law c bytes is.0 blocks report (j stream_ends.Ended tt, j stream_ends.Failed tt)).1
 
 pub me : (s : ℕ) → IsTrue (one s s)
 me s = eq-eqb s s refl
@@ -76,6 +74,5 @@ beginnings_within every alike p set bytes more cites =
       lines = front.0;
       rest = front.1;
       cut = front.2;
-      within = All-front (λ line. AllByRecursion (IsOwnedWithin p set) (cited_by line)) front.0 others.0
-          (subst (AllByRecursion (λ line. AllByRecursion (IsOwnedWithin p set) (cited_by line))) others.1 cites.within);
+      within = All-front (λ line. AllByRecursion (IsOwnedWithin p set) (cited_by line)) front.0 others.0 (rw others.1 at cites.within);
     }

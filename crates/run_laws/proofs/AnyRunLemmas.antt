@@ -1,7 +1,6 @@
 -- A closed set of streams in two histories.
 use Rattle.std.proofs.Common.{◌≡◌, ◌⊎◌, ◌≤◌, ◌-◌, ◌++◌, ℕ, Bool, true, Option, Some, None, List, [], ◌∷◌, length, inl, inr, refl, sym, ap}
-use Rattle.std.proofs.Common.{subst}
-use Rattle.std.proofs.Common.{◌∙◌, append_assoc, append-nil, arith}
+use Rattle.std.proofs.Common.{subst, ◌∙◌, append_assoc, append-nil, arith}
 use Rattle.std.specs.Prelude.{IsTrue, IfSome, IsSome}
 use Rattle.std.specs.List.{AllByRecursion, flat_map}
 use Rattle.std.specs.Io.KnownBytes.{Consumes}
@@ -9,13 +8,13 @@ use Rattle.std.proofs.lemmas.Option.{slice_get_within}
 use Rattle.lrup_model.specs.Clause.{Clause}
 use Rattle.lrup_model.specs.lemmas.EntryLemmas.{published_stay}
 use Rattle.lrup_model.specs.Event as events
-use Rattle.lrup_model.specs.Event.{Event, History, own, published, stream_of}
+use Rattle.lrup_model.specs.Event.{History, own, published, stream_of}
 use Rattle.lrup_model.specs.Formula.{Cnf}
 use Rattle.lrup_model.specs.History.{IsLegal}
 use Rattle.lrup_model.specs.lemmas.HistoryLemmas.{opening-owned, run-own}
 use Rattle.lrup_model.specs.Laws.{FindsWithin}
 use Rattle.lrup_model.specs.Layout.{LayoutValue, Fits, Owns, owner}
-use Rattle.lrup_model.specs.State.{Slot, opening, run, state, HasClause}
+use Rattle.lrup_model.specs.State.{opening, run, state, HasClause}
 use Rattle.lrup_model.specs.declared.layout.Owner.{Owner}
 use Rattle.lrup_model.specs.declared.layout.Owner.TheVariants as owners
 use Rattle.lrup_text.specs.Laws.{EmptyPending, OneFault, OneFirstLine, RefusedStays}
@@ -43,7 +42,8 @@ use Rattle.run_laws.specs.lemmas.OwnLemmas.{own_all}
 use Rattle.run_laws.proofs.AnyRunStreams.{near_fair, IsStillThere, all_still_there, IsIn, in_left, in_all, own_published, left_published}
 use Rattle.run_laws.proofs.AnyRunStreams.{stream_publishes, has_ended, fair_front, IsBlameless, GoesOn, lines_go_on, goes_on_says}
 use Rattle.run_laws.proofs.AnyRunStreams.{whole_observed}
-use Rattle.run_laws.proofs.GroupLemmas.{inside, is_inside, inside_is, closed_finds}
+use Rattle.run_laws.proofs.GroupLemmas.{closed_finds}
+use Rattle.run_laws.proofs.OrderLemmas.{streams_in, are_streams, streams_are}
 use Rattle.run_laws.proofs.Places.{has_place, judged_at}
 use Rattle.run_laws.proofs.ValidLines.{ownership_by}
 use Rattle.run_laws.proofs.WalkLemmas.{own-calls}
@@ -62,10 +62,9 @@ foreign_by c id owners.Outside is foreign = absurd (let no : ownerships.Outside 
 own_has : (f : Cnf) (p : LayoutValue) (h : History) (t id : ℕ) (d : Clause) → Fits p f → IsLegal f p h → Owns p t id
     → HasClause (state f h id) d → IsIn (id, d) (published (own h t))
 own_has f p h t id d fits legal owns has =
-    let its : HasClause (run (opening f) (own h t) id) d =
-    subst (λ (slot : Slot). HasClause slot d) (run-own f p (opening f) (opening f) h t id legal.events owns refl) has in
+    let its : HasClause (run (opening f) (own h t) id) d = rw (run-own f p (opening f) (opening f) h t id legal.events owns refl) at has in
     elim (left_published (opening f) (own h t) id d its) [
-      | inl before ↦ absurd (subst (λ (slot : Slot). HasClause slot d) (opening-owned f p t id fits owns) before)
+      | inl before ↦ absurd (rw (opening-owned f p t id fits owns) at before)
       | inr later ↦ later
     ]
 
@@ -90,8 +89,7 @@ one_begins first (line ∷ a) (other ∷ b) x y fit fits is =
     ]
 
 in_more : (x : ℕ × Clause) (a b : List StreamLine) → GoesOn a b → IsIn x (additions_of a) → IsIn x (additions_of b)
-in_more x a b on is =
-    subst (IsIn x) (sym (ap additions_of on.1 ∙ additions-append a on.0)) (in_left x (additions_of a) (additions_of on.0) is)
+in_more x a b on is = rw (ap additions_of on.1 ∙ additions-append a on.0) (in_left x (additions_of a) (additions_of on.0) is)
 
 -- A stream in a run
 
@@ -157,8 +155,7 @@ read_in f run_params observed reports r s whole observation report here entry sa
       blocks = j.0;
       events = j.1;
       reads = read_so (stream_params run_params s) stream.0.end stream.0.bytes stream.0.unneeded whole observation.left
-          observation.has_failed j.0 report
-          (subst (λ (e : Option (List ℕ)). Consumes e observation.left (stream.0.bytes ++ stream.0.unneeded)) entry is.consumes)
+          observation.has_failed j.0 report (rw entry at is.consumes)
           is.ends is.needed j.2;
     }
 
@@ -189,9 +186,9 @@ module _ (first : OneFirstLine) (refused : RefusedStays) (cited : CitedFetched) 
       end : StreamEnd
       judges : JudgesBlocks (stream_params run_params s) stream.bytes end blocks report
 
-    part_of : (s : ℕ) → IsTrue (inside run_params.layout set s) → Part s
+    part_of : (s : ℕ) → IsTrue (streams_in run_params.layout set s) → Part s
     part_of s member =
-        let is = inside_is run_params.layout set s member in
+        let is = streams_are run_params.layout set s member in
         let stream = has_place streams s is.1.0 (omega (arith, is.1.1, count)) in
         let report = has_place reports s is.1.0 (omega (arith, is.1.1, count, judged_count run_params set g 1 streams reports judged)) in
         let j = judged_at run_params set g streams reports judged s stream.0 report.0 is.0 stream.1 report.1 in
@@ -215,10 +212,10 @@ module _ (first : OneFirstLine) (refused : RefusedStays) (cited : CitedFetched) 
       texts : flat_map line_text read.reads.judges.lines ++ (read.reads.judges.rest ++ read.reads.left)
           ≡ flat_map line_text w.judges.lines ++ (w.judges.rest ++ more)
 
-    other_of : (s : ℕ) (member : IsTrue (inside run_params.layout set s)) (w : Part s) (observation : InputObservation) (more : List ℕ)
+    other_of : (s : ℕ) (member : IsTrue (streams_in run_params.layout set s)) (w : Part s) (observation : InputObservation) (more : List ℕ)
         → IsOfStream observed s observation → observation.entry ≡ Some (w.stream.bytes ++ more) → Other s w more
     other_of s member w observation more here entry =
-        let place = inside_is run_params.layout set s member in
+        let place = streams_are run_params.layout set s member in
         let report = has_place others s place.1.0
         (omega (arith, place.1.1, r.count, judged_count run_params (λ t. true) r.history 1 r.streams others r.judged)) in
         let read : IsReadIn f run_params observed others r s (w.stream.bytes ++ more) report.0 =
@@ -234,15 +231,15 @@ module _ (first : OneFirstLine) (refused : RefusedStays) (cited : CitedFetched) 
               ∙ append_assoc (flat_map line_text w.judges.lines) w.judges.rest more;
         }
 
-    its_other : (s : ℕ) (member : IsTrue (inside run_params.layout set s)) (w : Part s) → (more : List ℕ) × Other s w more
+    its_other : (s : ℕ) (member : IsTrue (streams_in run_params.layout set s)) (w : Part s) → (more : List ℕ) × Other s w more
     its_other s member w =
-        let is = inside_is run_params.layout set s member in
+        let is = streams_are run_params.layout set s member in
         let observation = has_place observed s is.1.0 (omega (arith, is.1.1, r.count, observed_count observed r.streams r.match_inputs)) in
         let entry = bytes s w.stream observation.0 is.0 w.at observation.1 in
         (entry.0, other_of s member w observation.0 entry.0 observation.1 entry.1)
 
     -- if both histories leave a clause at an identity of the set, it is the same clause
-    one_clause : (t id : ℕ) (x d : Clause) → IsTrue (inside run_params.layout set t) → Owns run_params.layout t id
+    one_clause : (t id : ℕ) (x d : Clause) → IsTrue (streams_in run_params.layout set t) → Owns run_params.layout t id
         → HasClause (state f g id) x → HasClause (state f r.history id) d → x ≡ d
     one_clause t id x d member owns mine theirs =
         let c = stream_params run_params t in
@@ -270,43 +267,38 @@ module _ (first : OneFirstLine) (refused : RefusedStays) (cited : CitedFetched) 
 
     -- what the history finds from other streams, and what the run finds
     abbrev Mine : ℕ → Clause → Type 0
-    Mine id d = HasClause (state f g id) d × ((t : ℕ) → Owns run_params.layout t id → IsTrue (inside run_params.layout set t))
+    Mine id d = HasClause (state f g id) d × ((t : ℕ) → Owns run_params.layout t id → IsTrue (streams_in run_params.layout set t))
 
     abbrev Theirs : ℕ → Clause → Type 0
     Theirs id d =
-        (t : ℕ) (x : Clause) → IsTrue (inside run_params.layout set t) → Owns run_params.layout t id → HasClause (state f g id) x → x ≡ d
+        (t : ℕ) (x : Clause) → IsTrue (streams_in run_params.layout set t) → Owns run_params.layout t id → HasClause (state f g id) x
+        → x ≡ d
 
     find_alike : (s : ℕ) → FindAlike (stream_params run_params s) Mine Theirs
     find_alike s id d e foreign mine theirs =
         let its = foreign_by (stream_params run_params s) id (owner run_params.layout id) refl foreign in
         theirs its.0 d (mine.1 its.0 its.1) its.1 mine.0
 
-    found_mine : (s : ℕ) (es : History) → IsTrue (inside run_params.layout set s) → AllByRecursion (λ e. stream_of e ≡ s) es
-        → AllByRecursion (FindsWithin run_params.layout (inside run_params.layout set)) es → AllByRecursion (IsStillThere (state f g)) es
-        → AllByRecursion (IsFoundIn (stream_params run_params s) Mine) es
+    found_mine : (s : ℕ) (es : History) → IsTrue (streams_in run_params.layout set s) → AllByRecursion (λ e. stream_of e ≡ s) es
+        → AllByRecursion (FindsWithin run_params.layout (streams_in run_params.layout set)) es
+        → AllByRecursion (IsStillThere (state f g)) es → AllByRecursion (IsFoundIn (stream_params run_params s) Mine) es
     found_mine s [] member calls within there = tt
-    found_mine s (events.fetch u id events.vacant ∷ es) member calls within there = (tt, found_mine s es member calls.1 within.1 there.1)
     found_mine s (events.fetch u id (events.live d) ∷ es) member calls within there = (
-      (λ foreign. (there.0, within.0 (subst (λ (t : ℕ). IsTrue (inside run_params.layout set t)) (sym calls.0) member) tt)),
+      (λ foreign. (there.0, within.0 (subst (λ (t : ℕ). IsTrue (streams_in run_params.layout set t)) (sym calls.0) member) tt)),
       found_mine s es member calls.1 within.1 there.1,
     )
-    found_mine s (events.fetch u id events.retired ∷ es) member calls within there = (tt, found_mine s es member calls.1 within.1 there.1)
-    found_mine s (events.publish u id d result ∷ es) member calls within there = (tt, found_mine s es member calls.1 within.1 there.1)
-    found_mine s (events.retire u id result ∷ es) member calls within there = (tt, found_mine s es member calls.1 within.1 there.1)
+    found_mine s (_ ∷ es) member calls within there = (tt, found_mine s es member calls.1 within.1 there.1)
 
     found_theirs : (s : ℕ) (es : History) → AllByRecursion (IsStillThere (state f r.history)) es
         → AllByRecursion (IsFoundIn (stream_params run_params s) Theirs) es
     found_theirs s [] there = tt
-    found_theirs s (events.fetch u id events.vacant ∷ es) there = (tt, found_theirs s es there.1)
     found_theirs s (events.fetch u id (events.live d) ∷ es) there =
         ((λ foreign t x member owns has. one_clause t id x d member owns has there.0), found_theirs s es there.1)
-    found_theirs s (events.fetch u id events.retired ∷ es) there = (tt, found_theirs s es there.1)
-    found_theirs s (events.publish u id d result ∷ es) there = (tt, found_theirs s es there.1)
-    found_theirs s (events.retire u id result ∷ es) there = (tt, found_theirs s es there.1)
+    found_theirs s (_ ∷ es) there = (tt, found_theirs s es there.1)
 
     -- the run's good lines begin with the stream's lines, or the stream was stopped in these lines
     -- and isn't to blame
-    goes_on : (s : ℕ) (member : IsTrue (inside run_params.layout set s)) (w : Part s) (more : List ℕ) (o : Other s w more)
+    goes_on : (s : ℕ) (member : IsTrue (streams_in run_params.layout set s)) (w : Part s) (more : List ℕ) (o : Other s w more)
         → w.judges.rest ≡ []
         → GoesOn w.judges.lines o.read.reads.judges.lines ⊎ IsBlameless (stream_params run_params s) Mine (length w.judges.lines) o.report
     goes_on s member w more o none =
@@ -316,7 +308,7 @@ module _ (first : OneFirstLine) (refused : RefusedStays) (cited : CitedFetched) 
         let mine : AreFair c Mine (opening f) (own g s) =
         near_fair f c Mine (opening f) (opening f) g legal.events (λ id near. refl)
         (found_mine s (own g s) member (own-calls g s)
-        (own_all (FindsWithin p (inside p set)) g s (closed_finds cited run_params set g streams reports count judged closed))
+        (own_all (FindsWithin p (streams_in p set)) g s (closed_finds cited run_params set g streams reports count judged closed))
         (own_all (IsStillThere (state f g)) g s (all_still_there f p (opening f) g legal.events))) in
         let theirs : AreFair c Theirs (opening f) (own r.history s) =
         near_fair f c Theirs (opening f) (opening f) r.history r.legal.events (λ id near. refl)
@@ -349,8 +341,8 @@ module _ (first : OneFirstLine) (refused : RefusedStays) (cited : CitedFetched) 
     agrees_on s report other member says ended too =
         let c = stream_params run_params s in
         let within = slice_get_within reports (s - 1) report says.1 in
-        let here : IsTrue (inside run_params.layout set s) =
-        is_inside run_params.layout set s member
+        let here : IsTrue (streams_in run_params.layout set s) =
+        are_streams run_params.layout set s member
         (says.0, omega (arith, says.0, within, judged_count run_params set g 1 streams reports judged, count)) in
         let w : Part s = part_of s here in
         let its : (more : List ℕ) × Other s w more = its_other s here w in
@@ -389,8 +381,8 @@ module _ (first : OneFirstLine) (refused : RefusedStays) (cited : CitedFetched) 
       same_report s stream observation report other member at says ended here entry too fine =
           let c = stream_params run_params s in
           let within = slice_get_within reports (s - 1) report says.1 in
-          let inner : IsTrue (inside run_params.layout set s) =
-          is_inside run_params.layout set s member
+          let inner : IsTrue (streams_in run_params.layout set s) =
+          are_streams run_params.layout set s member
           (says.0, omega (arith, says.0, within, judged_count run_params set g 1 streams reports judged, count)) in
           let w : Part s = part_of s inner in
           let whole : w.stream.bytes ≡ stream.bytes = ap (λ (x : Stream). x.bytes) (same_at streams s w.stream stream w.at at) in

@@ -76,17 +76,14 @@ vacants_fair c Found m h (suc n) r rest fair = vacants_fair c Found m h n r rest
 pub asked_fair : (ownership : Ownership) (c : StreamParams) (Found : ℕ → Clause → Type 0) (m : State) (h : ℕ)
     (asked rest : History) (r : Reply)
     → ownership_of c h ≡ ownership → FetchesHintAt ownership c h asked r → AreFair c Found m (asked ++ rest) → IsAsked c Found m h r rest
-asked_fair ownerships.Formula c Found m h asked rest r is asks fair =
-    let here = subst (λ (a : History). AreFair c Found m (a ++ rest)) asks fair in record { near = here.0; found = here.1; later = here.2 }
-asked_fair ownerships.Own c Found m h asked rest r is asks fair =
-    let here = subst (λ (a : History). AreFair c Found m (a ++ rest)) asks fair in record { near = here.0; found = here.1; later = here.2 }
-asked_fair ownerships.Foreign c Found m h asked rest r is asks fair =
-    vacants_fair c Found m h asks.0 r rest (subst (λ (a : History). AreFair c Found m (a ++ rest)) asks.3 fair)
+asked_fair ownerships.Foreign c Found m h asked rest r is asks fair = vacants_fair c Found m h asks.0 r rest (rw asks.3 at fair)
 asked_fair ownerships.Outside c Found m h asked rest r is asks fair = record {
   near = λ near. absurd (subst IsNear is near);
   found = subst (λ (x : Reply). IsFoundIn c Found (events.fetch c.stream h x)) (sym asks.1) tt;
   later = subst (λ (a : History). AreFair c Found m (a ++ rest)) asks.0 fair;
 }
+asked_fair _ c Found m h asked rest r is asks fair =
+    let here = subst (λ (a : History). AreFair c Found m (a ++ rest)) asks fair in record { near = here.0; found = here.1; later = here.2 }
 
 -- if the state has a live clause at the identity, the reply to a fetch is this clause
 fetch_live : (m : State) (s id : ℕ) (d : Clause) (r : Reply) → Answers m (events.fetch s id (events.live d))
@@ -126,16 +123,13 @@ replies_agree : (ownership : Ownership) (c : StreamParams) (Mine Theirs : ℕ �
     → FindAlike c Mine Theirs → ownership_of c h ≡ ownership → FetchesHintAt ownership c h asked (events.live d)
     → IsAsked c Mine m h (events.live d) rest
     → IsAsked c Theirs m h r left → IsThatOrLacks c Mine h d (answer_of h r)
-replies_agree ownerships.Formula c Mine Theirs m h rest left d r asked alike is asks mine theirs =
-    let near : IsNear (ownership_of c h) = subst IsNear (sym is) tt in
-    inl (ap (answer_of h) (fetch_live m c.stream h d r (mine.near near) (theirs.near near)))
-replies_agree ownerships.Own c Mine Theirs m h rest left d r asked alike is asks mine theirs =
-    let near : IsNear (ownership_of c h) = subst IsNear (sym is) tt in
-    inl (ap (answer_of h) (fetch_live m c.stream h d r (mine.near near) (theirs.near near)))
 replies_agree ownerships.Foreign c Mine Theirs m h rest left d r asked alike is asks mine theirs =
     foreign_agree c Mine Theirs m h rest left d r alike is mine theirs
 replies_agree ownerships.Outside c Mine Theirs m h rest left d r asked alike is asks mine theirs =
     absurd (let no : events.live d ≡ events.vacant = asks.1 in cc)
+replies_agree _ c Mine Theirs m h rest left d r asked alike is asks mine theirs =
+    let near : IsNear (ownership_of c h) = subst IsNear (sym is) tt in
+    inl (ap (answer_of h) (fetch_live m c.stream h d r (mine.near near) (theirs.near near)))
 
 -- the first history's look-up finds this clause; the second history's look-up finds it, too, or
 -- fails because the clause isn't there; and the events after both look-ups are fair
@@ -154,11 +148,10 @@ looks_agree c Mine Theirs m is_dropped h fs asked rest es also left d answer ali
     absurd (true≢false (sym dropped.0 ∙ (found_live c is_dropped h asked d found).0))
 looks_agree c Mine Theirs m is_dropped h fs asked rest es also left d answer alike one two mine theirs found (inr other) =
     let was = found_live c is_dropped h asked d found in
-    let here = asked_fair (ownership_of c h) c Mine m h asked rest (events.live d) refl was.1 (subst (AreFair c Mine m) one mine) in
-    let there = asked_fair (ownership_of c h) c Theirs m h also left other.1 refl other.2 (subst (AreFair c Theirs m) two theirs) in
+    let here = asked_fair (ownership_of c h) c Mine m h asked rest (events.live d) refl was.1 (rw one at mine) in
+    let there = asked_fair (ownership_of c h) c Theirs m h also left other.1 refl other.2 (rw two at theirs) in
     record {
-      that = subst (IsThatOrLacks c Mine h d) (sym other.3)
-          (replies_agree (ownership_of c h) c Mine Theirs m h rest left d other.1 asked alike refl was.1 here there);
+      that = rw other.3 (replies_agree (ownership_of c h) c Mine Theirs m h rest left d other.1 asked alike refl was.1 here there);
       mine = here.later;
       theirs = there.later;
     }
@@ -184,11 +177,10 @@ by_agrees : (c : StreamParams) (Mine : ℕ → Clause → Type 0) (is_dropped : 
     → Refutes n (d ∷ ds) → AreFound c is_dropped hints ds rest
     → ((l : ℤ) → Refutes (n ++ neg_ℤ l ∷ []) ds → A (n ++ neg_ℤ l ∷ []) → Lacks c Mine fault)
     → IsThatOrLacks c Mine h d answer → FailsBy answer n h hints es fault A → Lacks c Mine fault
-by_agrees c Mine is_dropped n d ds h hints rest answer es fault A refutes found next (inl that) fails =
-    elim (subst (λ (x : Result Clause Fault). FailsBy x n h hints es fault A) that fails) [
-      | inl unit ↦ next unit.0 (refutes_on n d ds unit.0 refutes unit.1) unit.2
-      | inr misleads ↦ absurd (no_help n d ds c is_dropped h hints rest fault refutes found misleads.1)
-    ]
+by_agrees c Mine is_dropped n d ds h hints rest answer es fault A refutes found next (inl that) fails = elim (rw that at fails) [
+  | inl unit ↦ next unit.0 (refutes_on n d ds unit.0 refutes unit.1) unit.2
+  | inr misleads ↦ absurd (no_help n d ds c is_dropped h hints rest fault refutes found misleads.1)
+]
 by_agrees c Mine is_dropped n d ds h hints rest answer es fault A refutes found next (inr (its, is, lack)) fails =
     lacks_it c Mine h d its fault (subst (λ (x : Result Clause Fault). FailsBy x n h hints es fault A) is fails).1 lack
 

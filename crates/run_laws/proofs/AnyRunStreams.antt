@@ -64,19 +64,18 @@ near_fair f c Found m n [] legal agree found = tt
 near_fair f c Found m n (e ∷ h) legal agree found = elim (cases_eq (stream_of e) c.stream) [
   | inl mine ↦
       let is = own-mine e h c.stream mine in
-      let finds = subst (AllByRecursion (IsFoundIn c Found)) is found in
-      subst (AreFair c Found n) (sym is) (
+      let finds = rw is at found in
+      rw is (
         λ near. answers-agree m n e (sym (agree (identity_of e) near)) legal.0,
         finds.0,
         near_fair f c Found (after m e) (after n e) h legal.2 (λ id near. after-agrees n m e id (agree id near)) finds.1,
       )
   | inr other ↦
       let is = own-other e h c.stream other in
-      subst (AreFair c Found n) (sym is)
+      rw is
       (near_fair f c Found (after m e) n h legal.2
-      (λ id near. agree id near
-      ∙ sym (after-foreign f c.layout m e id legal.1 (λ theirs. other (near_owner c id (stream_of e) near theirs))))
-      (subst (AllByRecursion (IsFoundIn c Found)) is found))
+      (λ id near. agree id near ∙ sym
+      (after-foreign f c.layout m e id legal.1 (λ theirs. other (near_owner c id (stream_of e) near theirs)))) (rw is at found))
 ]
 
 -- a clause that was found is still at its identity in this state, live or retired
@@ -88,12 +87,9 @@ IsStillThere k (events.publish s id d r) = Unit {0}
 IsStillThere k (events.retire s id r) = Unit {0}
 
 still_there : (f : Cnf) (p : LayoutValue) (m : State) (e : Event) (h : History) → LegalFrom f p m (e ∷ h) → IsStillThere (run m (e ∷ h)) e
-still_there f p m (events.fetch s id events.vacant) h legal = tt
 still_there f p m (events.fetch s id (events.live d)) h legal =
     has_stays (m id) (run m h id) d (run-advances f p m h id legal.2) (subst (λ (x : Slot). HasClause x d) (sym legal.0) refl)
-still_there f p m (events.fetch s id events.retired) h legal = tt
-still_there f p m (events.publish s id d r) h legal = tt
-still_there f p m (events.retire s id r) h legal = tt
+still_there f p m _ h legal = tt
 
 pub all_still_there : (f : Cnf) (p : LayoutValue) (m : State) (h : History) → LegalFrom f p m h → AllByRecursion (IsStillThere (run m h)) h
 all_still_there f p m [] legal = tt
@@ -105,11 +101,8 @@ Anything id d = Unit {0}
 
 pub all_anything : (c : StreamParams) (es : History) → AllByRecursion (IsFoundIn c Anything) es
 all_anything c [] = tt
-all_anything c (events.fetch s id events.vacant ∷ es) = (tt, all_anything c es)
 all_anything c (events.fetch s id (events.live d) ∷ es) = ((λ foreign. tt), all_anything c es)
-all_anything c (events.fetch s id events.retired ∷ es) = (tt, all_anything c es)
-all_anything c (events.publish s id d r ∷ es) = (tt, all_anything c es)
-all_anything c (events.retire s id r ∷ es) = (tt, all_anything c es)
+all_anything c (_ ∷ es) = (tt, all_anything c es)
 
 -- What is published
 
@@ -144,13 +137,11 @@ own_published (e ∷ h) s x is =
     elim (cases_eq (stream_of e) s) [
       | inl mine ↦
           let part = ap published (own-mine e h s mine) ∙ published-append (e ∷ []) (own h s) in
-          elim (in_either x (published (e ∷ [])) (published (own h s)) (subst (IsIn x) part is)) [
-            | inl here ↦ subst (IsIn x) (sym whole) (in_left x (published (e ∷ [])) (published h) here)
-            | inr later ↦ subst (IsIn x) (sym whole) (in_right x (published (e ∷ [])) (published h) (own_published h s x later))
+          elim (in_either x (published (e ∷ [])) (published (own h s)) (rw part at is)) [
+            | inl here ↦ rw whole (in_left x (published (e ∷ [])) (published h) here)
+            | inr later ↦ rw whole (in_right x (published (e ∷ [])) (published h) (own_published h s x later))
           ]
-      | inr other ↦
-          subst (IsIn x) (sym whole) (in_right x (published (e ∷ [])) (published h)
-          (own_published h s x (subst (λ (g : History). IsIn x (published g)) (own-other e h s other) is)))
+      | inr other ↦ rw whole (in_right x (published (e ∷ [])) (published h) (own_published h s x (rw (own-other e h s other) at is)))
     ]
 
 had : (slot : Slot) (d : Clause) → HasClause (retire_slot slot) d → HasClause slot d
@@ -162,9 +153,6 @@ had (retired c) d has = has
 pub left_published : (m : State) (es : History) (id : ℕ) (d : Clause) → HasClause (run m es id) d
     → HasClause (m id) d ⊎ IsIn (id, d) (published es)
 left_published m [] id d has = inl has
-left_published m (events.fetch s j r ∷ es) id d has = left_published m es id d has
-left_published m (events.publish s j c publishing.Taken ∷ es) id d has = left_published m es id d has
-left_published m (events.retire s j retiring.NotLive ∷ es) id d has = left_published m es id d has
 left_published m (events.publish s j c publishing.Done ∷ es) id d has = elim (left_published (put m j (live c)) es id d has) [
   | inr later ↦ inr (inr later)
   | inl here ↦ elim (cases_eq id j) [
@@ -177,11 +165,11 @@ left_published m (events.publish s j c publishing.Done ∷ es) id d has = elim (
 left_published m (events.retire s j retiring.Done ∷ es) id d has = elim (left_published (put m j (retire_slot (m j))) es id d has) [
   | inr later ↦ inr later
   | inl here ↦ elim (cases_eq id j) [
-    | inl same ↦ inl (subst (λ (i : ℕ). HasClause (m i) d) (sym same)
-        (had (m j) d (subst (λ (x : Slot). HasClause x d) (put-same m j (retire_slot (m j)) id same) here)))
-    | inr other ↦ inl (subst (λ (x : Slot). HasClause x d) (put-other m j (retire_slot (m j)) id other) here)
+    | inl same ↦ inl (rw same (had (m j) d (rw (put-same m j (retire_slot (m j)) id same) at here)))
+    | inr other ↦ inl (rw (put-other m j (retire_slot (m j)) id other) at here)
   ]
 ]
+left_published m (_ ∷ es) id d has = left_published m es id d has
 
 module _ (c : StreamParams) where
   good_lines_publish : (before lines : List StreamLine) (blocks : List History) → AreGood c before lines blocks

@@ -4,7 +4,7 @@ use Rattle.std.proofs.Common.{append-nil}
 use Rattle.std.specs.List.{AllByRecursion, flat_map}
 use Rattle.lrup_model.specs.Clause.{Clause}
 use Rattle.lrup_model.specs.Event as events
-use Rattle.lrup_model.specs.Event.{Event, History, own, stream_of}
+use Rattle.lrup_model.specs.Event.{History, own, stream_of}
 use Rattle.lrup_model.specs.Formula.{Cnf}
 use Rattle.lrup_model.specs.History.{IsLegal}
 use Rattle.lrup_model.specs.lemmas.HistoryLemmas.{opening-owned, own-all, own-none, run-own}
@@ -13,7 +13,7 @@ use Rattle.lrup_model.specs.State.{Slot, opening, run, state, HasClause}
 use Rattle.lrup_text.specs.Laws.{EmptyCut, OneCut, OneFirstLine, RefusedStays}
 use Rattle.lrup_text.specs.Lines.{StreamLine, line_text}
 use Rattle.stream_check.specs.declared.params.Ownership.TheVariants as ownerships
-use Rattle.stream_check.specs.Judging.{EndsAfter, joined}
+use Rattle.stream_check.specs.Judging.{joined}
 use Rattle.stream_check.specs.Laws.{EndJudged, FreshLeft, GoodLineTaken}
 use Rattle.stream_check.specs.lemmas.ReportLemmas.{joined-append}
 use Rattle.stream_check.specs.StreamParams.{StreamParams, ownership_of}
@@ -51,12 +51,9 @@ all_nothing : (f : Cnf) (c : StreamParams) (h : History) → Fits c.layout f →
     → AllByRecursion (λ e. stream_of e ≡ c.stream) h
     → (es : History) → AllByRecursion (IsStillThere (state f h)) es → AllByRecursion (IsFoundIn c Nothing) es
 all_nothing f c h fits legal calls [] there = tt
-all_nothing f c h fits legal calls (events.fetch s id events.vacant ∷ es) there = (tt, all_nothing f c h fits legal calls es there.1)
 all_nothing f c h fits legal calls (events.fetch s id (events.live d) ∷ es) there =
     ((λ foreign. none_there f c h id d fits legal calls foreign there.0), all_nothing f c h fits legal calls es there.1)
-all_nothing f c h fits legal calls (events.fetch s id events.retired ∷ es) there = (tt, all_nothing f c h fits legal calls es there.1)
-all_nothing f c h fits legal calls (events.publish s id d r ∷ es) there = (tt, all_nothing f c h fits legal calls es there.1)
-all_nothing f c h fits legal calls (events.retire s id r ∷ es) there = (tt, all_nothing f c h fits legal calls es there.1)
+all_nothing f c h fits legal calls (_ ∷ es) there = (tt, all_nothing f c h fits legal calls es there.1)
 
 -- In a run
 
@@ -94,17 +91,14 @@ valid_begins taken fresh ends empty_cut one_cut first refused
     near_fair f c Anything (opening f) (opening f) run.history run.legal.events (λ id near. refl) (all_anything c (own run.history s)) in
     let ours : AreFair c Nothing (opening f) (joined w.front) =
     fair_front c Nothing (opening f) (joined w.front) (joined w.back)
-    (subst (AreFair c Nothing (opening f))
-    (own-all s g alone.1 ∙ alone.0.judges.events ∙ ap joined w.split ∙ joined-append w.front w.back) mine) in
-    let also : AreFair c Anything (opening f) (joined (j.front ++ j.back)) =
-    subst (AreFair c Anything (opening f)) (read.events ∙ ap joined j.split) theirs in
+    (rw (own-all s g alone.1 ∙ alone.0.judges.events ∙ ap joined w.split ∙ joined-append w.front w.back) at mine) in
+    let also : AreFair c Anything (opening f) (joined (j.front ++ j.back)) = rw (read.events ∙ ap joined j.split) at theirs in
     elim (lines_go_on first refused c Nothing Anything
     (λ id d e foreign mine theirs. absurd mine) [] w.lines j.lines w.front j.front j.back
     (opening f) j.rest read.reads.left more read.reads.end (length lines) report
     (omega (arith, ap (λ (ls : List StreamLine). length ls) same)) w.good j.good j.ends w.fits j.fits begins read.reads.ended ours also) [
       | inl on ↦ inl (goes_on_says c lines on.0 j.rest read.reads.end j.back report
-          (subst (λ (ls : List StreamLine). EndsAfter c ls j.rest read.reads.end j.back report)
-          (on.1 ∙ ap (λ (ls : List StreamLine). ls ++ on.0) same) j.ends))
+          (rw (on.1 ∙ ap (λ (ls : List StreamLine). ls ++ on.0) same) at j.ends))
       | inr (inl cut) ↦ inr cut
       | inr (inr lacks) ↦ absurd lacks.3
     ]

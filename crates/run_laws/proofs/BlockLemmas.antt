@@ -1,5 +1,5 @@
 -- An event that joins the first block of its stream, in an order of blocks.
-use Rattle.std.proofs.Common.{◌≡◌, ℕ, false, cond, eqb, List, [], ◌∷◌, ◌++◌, refl, sym, ap, subst, ◌∙◌, inl, inr, ne_eqb, eq-eqb}
+use Rattle.std.proofs.Common.{◌≡◌, ℕ, false, cond, eqb, List, [], ◌∷◌, ◌++◌, refl, sym, ap, ◌∙◌, inl, inr, ne_eqb, eq-eqb}
 use Rattle.std.specs.List.{AllByRecursion}
 use Rattle.std.proofs.lemmas.Bool.{cases_eq, cond-true, cond-false}
 use Rattle.lrup_model.specs.Formula.{Cnf}
@@ -91,10 +91,9 @@ pub join-settled : (p : LayoutValue) (final : State) (e : Event) (blocks : List 
 join-settled p final e [] settles all = tt
 join-settled p final e (block ∷ blocks) settles all =
     elim (cases_eq block.stream (stream_of e)) [
-      | inl same ↦ subst (AllByRecursion (IsSettled p final)) (sym (join-same e block blocks same))
+      | inl same ↦ rw (join-same e block blocks same)
           (record { stream = all.0.stream; calls = (sym same, all.0.calls); settles = (settles, all.0.settles) }, all.1)
-      | inr other ↦ subst (AllByRecursion (IsSettled p final)) (sym (join-other e block blocks other))
-          (all.0, join-settled p final e blocks settles all.1)
+      | inr other ↦ rw (join-other e block blocks other) (all.0, join-settled p final e blocks settles all.1)
     ]
 
 -- an order stays legal if a fetch that found something is moved into its stream's next block
@@ -104,17 +103,15 @@ pub join-legal : (f : Cnf) (p : LayoutValue) (final m : State) (e : Event) (bloc
 join-legal f p final m e [] b more early some settles all is legal = absurd (cc)
 join-legal f p final m e (block ∷ blocks) b more early some settles all is legal =
     elim (cases_eq block.stream (stream_of e)) [
-      | inl same ↦ subst (λ (bs : List Block). LegalFrom f p m (events_in bs)) (sym (join-same e block blocks same)) legal
+      | inl same ↦ rw (join-same e block blocks same) legal
       | inr other ↦
           let following : LegalFrom f p m (block.events ++ e ∷ events_in blocks)
           = goes-following f p final m e block.stream block.events (events_in blocks) early some
           (λ same. other (sym same)) settles all.0.calls all.0.settles legal in
-          subst (λ (bs : List Block). LegalFrom f p m (events_in bs)) (sym (join-other e block blocks other))
-          (legal-append f p m block.events (events_in (join e blocks))
-          (legal-front f p m block.events (e ∷ events_in blocks) following)
+          rw (join-other e block blocks other)
+          (legal-append f p m block.events (events_in (join e blocks)) (legal-front f p m block.events (e ∷ events_in blocks) following)
           (join-legal f p final (run m block.events) e blocks b more early some settles all.1
-          (sym (blocks-other block blocks (stream_of e) other) ∙ is)
-          (legal-back f p m block.events (e ∷ events_in blocks) following)))
+          (sym (blocks-other block blocks (stream_of e) other) ∙ is) (legal-back f p m block.events (e ∷ events_in blocks) following)))
     ]
 
 -- an order stays legal if a fetch that found nothing is put before a repetition of itself
@@ -128,13 +125,11 @@ join-again f p m s id (block ∷ blocks) b more is legal =
       | inl same ↦
           let here : block.events ∷ blocks_of s blocks ≡ (e ∷ b) ∷ more = sym (blocks-same block blocks s same) ∙ is in
           let first : block.events ≡ e ∷ b = cc in
-          let whole : LegalFrom f p m (e ∷ b ++ events_in blocks) =
-          subst (λ (g : History). LegalFrom f p m (g ++ events_in blocks)) first legal in
-          subst (λ (bs : List Block). LegalFrom f p m (events_in bs)) (sym (join-same e block blocks same)) (whole.0, whole.1, legal)
+          let whole : LegalFrom f p m (e ∷ b ++ events_in blocks) = rw first at legal in
+          rw (join-same e block blocks same) (whole.0, whole.1, legal)
       | inr other ↦
-          subst (λ (bs : List Block). LegalFrom f p m (events_in bs)) (sym (join-other e block blocks other))
-          (legal-append f p m block.events (events_in (join e blocks))
-          (legal-front f p m block.events (events_in blocks) legal)
+          rw (join-other e block blocks other)
+          (legal-append f p m block.events (events_in (join e blocks)) (legal-front f p m block.events (events_in blocks) legal)
           (join-again f p (run m block.events) s id blocks b more (sym (blocks-other block blocks s other) ∙ is)
           (legal-back f p m block.events (events_in blocks) legal)))
     ]
@@ -188,9 +183,8 @@ pub without-settled : (p : LayoutValue) (final : State) (s : ℕ) (blocks : List
 without-settled p final s [] all = tt
 without-settled p final s (block ∷ blocks) all =
     elim (cases_eq block.stream s) [
-      | inl same ↦ subst (AllByRecursion (IsSettled p final)) (sym (without-same s block blocks same)) all.1
-      | inr other ↦ subst (AllByRecursion (IsSettled p final)) (sym (without-other s block blocks other))
-          (all.0, without-settled p final s blocks all.1)
+      | inl same ↦ rw (without-same s block blocks same) all.1
+      | inr other ↦ rw (without-other s block blocks other) (all.0, without-settled p final s blocks all.1)
     ]
 
 -- what is known about all blocks is known about a stream's first block
@@ -202,8 +196,7 @@ first-settled p final s (block ∷ blocks) b more all is =
       | inl same ↦
           let here : block.events ∷ blocks_of s blocks ≡ b ∷ more = sym (blocks-same block blocks s same) ∙ is in
           let first : block.events ≡ b = cc in
-          subst (λ (t : ℕ). IsSettled p final (record { stream = t; events = b })) same
-          (subst (λ (g : History). IsSettled p final (record { stream = block.stream; events = g })) first all.0)
+          rw (first, same) at all.0
       | inr other ↦ first-settled p final s blocks b more all.1 (sym (blocks-other block blocks s other) ∙ is)
     ]
 
@@ -218,15 +211,12 @@ retires-first f p final m s (block ∷ blocks) b more retires mine settles all i
       | inl same ↦
           let here : block.events ∷ blocks_of s blocks ≡ b ∷ more = sym (blocks-same block blocks s same) ∙ is in
           let first : block.events ≡ b = cc in
-          subst (λ (bs : List Block). LegalFrom f p m (b ++ events_in bs)) (sym (without-same s block blocks same))
-          (subst (λ (g : History). LegalFrom f p m (g ++ events_in blocks)) first legal)
+          rw (without-same s block blocks same) (rw first at legal)
       | inr other ↦
-          subst (λ (bs : List Block). LegalFrom f p m (b ++ events_in bs)) (sym (without-other s block blocks other))
-          (comes-before f p final m s b block.stream block.events (events_in (without s blocks))
-          (λ same. other (sym same)) retires mine settles all.0.calls all.0.settles
-          (legal-append f p m block.events (b ++ events_in (without s blocks))
-          (legal-front f p m block.events (events_in blocks) legal)
+          rw (without-other s block blocks other)
+          (comes-before f p final m s b block.stream block.events (events_in (without s blocks)) (λ same. other (sym same)) retires mine
+          settles all.0.calls all.0.settles
+          (legal-append f p m block.events (b ++ events_in (without s blocks)) (legal-front f p m block.events (events_in blocks) legal)
           (retires-first f p final (run m block.events) s blocks b more retires mine settles all.1
-          (sym (blocks-other block blocks s other) ∙ is)
-          (legal-back f p m block.events (events_in blocks) legal))))
+          (sym (blocks-other block blocks s other) ∙ is) (legal-back f p m block.events (events_in blocks) legal))))
     ]

@@ -1,5 +1,5 @@
 -- A group as a run in which the other streams are empty.
-use Rattle.std.proofs.Common.{◌≡◌, ℕ, ◌+◌, Bool, false, cond, List, [], ◌∷◌, Some, refl, sym, ap, subst, ◌∙◌, inl, inr}
+use Rattle.std.proofs.Common.{◌≡◌, ℕ, ◌+◌, Bool, false, cond, List, [], ◌∷◌, Some, refl, sym, ap, ◌∙◌, inl, inr}
 use Rattle.std.specs.Prelude.{IsTrue}
 use Rattle.std.specs.List.{AllByRecursion}
 use Rattle.std.proofs.lemmas.Bool.{cases_Bool, cond-true, cond-false, true≢false}
@@ -56,16 +56,11 @@ emptied : FreshLeft → EndJudged → (run_params : RunParamsValue) (set : ℕ �
 emptied first last run_params set h s stream report members judged =
     let c = stream_params run_params s in
     elim (cases_Bool (set s)) [
-      | inl member ↦
-          subst (λ (x : Stream). IsJudgedBy c x (own h s) (cond (set s) report empty_report))
-          (sym (cond-true (set s) stream empty_stream member))
-          (subst (λ (r : Report). IsJudgedBy c stream (own h s) r) (sym (cond-true (set s) report empty_report member)) (judged member))
+      | inl member ↦ rw (cond-true (set s) stream empty_stream member, cond-true (set s) report empty_report member) (judged member)
       | inr out ↦
           let none : own h s ≡ [] = own-none h s (others_call set s h out members) in
-          subst (λ (x : Stream). IsJudgedBy c x (own h s) (cond (set s) report empty_report))
-          (sym (cond-false (set s) stream empty_stream out))
-          (subst (λ (r : Report). IsJudgedBy c empty_stream (own h s) r) (sym (cond-false (set s) report empty_report out))
-          (subst (λ (es : History). IsJudgedBy c empty_stream es empty_report) (sym none) ([], refl, nothing_judged first last c)))
+          rw (cond-false (set s) stream empty_stream out, cond-false (set s) report empty_report out, none)
+          ([], refl, nothing_judged first last c)
     ]
 
 emptied_from : FreshLeft → EndJudged → (run_params : RunParamsValue) (set all : ℕ → Bool) (h : History)

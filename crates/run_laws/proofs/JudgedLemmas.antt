@@ -50,9 +50,8 @@ module _ (early_events : EarlyEvents) (vacant_tries_again : VacantTriesAgain) (c
 
 pub judged_blocks : EarlyEvents → VacantTriesAgain → JudgedBlocks
 judged_blocks early_events vacant_tries_again c bytes end blocks report j =
-    subst (AllByRecursion IsLineBlock) (sym j.split)
-    (All-append IsLineBlock j.front j.back
-    (good_blocks early_events vacant_tries_again c [] j.lines j.front j.good)
+    rw j.split
+    (All-append IsLineBlock j.front j.back (good_blocks early_events vacant_tries_again c [] j.lines j.front j.good)
     (end_blocks early_events vacant_tries_again c j.lines j.rest end j.back report j.ends))
 
 -- The judged lines are the first lines that the bytes are cut into
@@ -146,10 +145,9 @@ deleted_retired first c bytes end blocks report all rest p j cut passes =
     let begins : AreFirst j.lines all j.rest rest
     = lines_first first j.lines all j.rest rest j.fits cut.each cut.last (sym j.text ∙ cut.bytes) in
     let pass : AllByRecursion (Passes c p) j.lines × AllByRecursion (Passes c p) begins.more
-    = parts (Passes c p) j.lines begins.more (subst (AllByRecursion (Passes c p)) begins.is passes) in
+    = parts (Passes c p) j.lines begins.more (rw begins.is at passes) in
     let fit : AllByRecursion IsWithinLimits j.lines × AllByRecursion IsWithinLimits begins.more
-    = parts IsWithinLimits j.lines begins.more (subst (AllByRecursion IsWithinLimits) begins.is cut.each) in
-    subst (AllByRecursion (RetiresOnly p)) (sym (ap joined j.split ∙ joined-append j.front j.back))
-    (All-append (RetiresOnly p) (joined j.front) (joined j.back)
-    (good_retire c p [] j.lines j.front pass.0 j.good)
+    = parts IsWithinLimits j.lines begins.more (rw begins.is at cut.each) in
+    rw (ap joined j.split ∙ joined-append j.front j.back)
+    (All-append (RetiresOnly p) (joined j.front) (joined j.back) (good_retire c p [] j.lines j.front pass.0 j.good)
     (ends_retire c p first j.lines begins.more j.rest rest end j.back report begins.bytes fit.1 cut.last pass.1 j.ends))

@@ -79,8 +79,7 @@ lines_are s [] = refl
 lines_are s (x ∷ blocks) = elim (cases_eq x.stream s) [
   | inl same ↦
       let own : line_count s (x.stream ∷ streams_of blocks) ≡ 1 + line_count s (streams_of blocks) =
-      subst (λ t. line_count s (t ∷ streams_of blocks) ≡ 1 + line_count s (streams_of blocks)) (sym same)
-      (lines_own s (streams_of blocks)) in
+      rw same (lines_own s (streams_of blocks)) in
       omega (arith, own, lines_are s blocks, ap (λ (bs : List History). length bs) (blocks-same x blocks s same))
   | inr other ↦
       omega (
@@ -122,10 +121,8 @@ module _ (alike : BlocksGoAlike) (forks : LegalNeverFork) (f : Cnf) (run_params 
   alike_at before xs ys s stream is also =
       let j = both s stream in
       alike (stream_params run_params s) j.bytes j.end (blocks_of s before) (blocks_of s xs) (blocks_of s ys) j.report j.other
-      (subst (λ (hs : List History). JudgesBlocks (stream_params run_params s) j.bytes j.end hs j.report)
-      (ap (blocks_of s) is ∙ blocks_of-append s before xs) j.first)
-      (subst (λ (hs : List History). JudgesBlocks (stream_params run_params s) j.bytes j.end hs j.other)
-      (ap (blocks_of s) also ∙ blocks_of-append s before ys) j.second)
+      (rw (ap (blocks_of s) is ∙ blocks_of-append s before xs) at j.first)
+      (rw (ap (blocks_of s) also ∙ blocks_of-append s before ys) at j.second)
       j.memory j.none
 
   -- the next lines of both orders are the same

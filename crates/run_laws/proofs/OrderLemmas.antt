@@ -35,15 +35,12 @@ use Rattle.run_laws.proofs.WalkLemmas.{walk}
 
 settles_one : (f : Cnf) (p : LayoutValue) (final m : State) (e : Event) (h : History) → LegalFrom f p m (e ∷ h)
     → ((id : ℕ) → IsRetired (run m (e ∷ h) id) → IsRetired (final id)) → FindsKept p final e → Settles p final e
-settles_one f p final m (events.fetch s id events.vacant) h legal later cites = tt
 settles_one f p final m (events.fetch s id (events.live c)) h legal later cites = cites
-settles_one f p final m (events.fetch s id events.retired) h legal later cites = tt
-settles_one f p final m (events.publish s id c r) h legal later cites = tt
 settles_one f p final m (events.retire s id retiring.Done) h legal later cites =
     let e : Event = events.retire s id retiring.Done in
     later id (gone_stays (after m e id) (run (after m e) h id) (run-advances f p (after m e) h id legal.2)
     (subst IsRetired (sym (put-same m id (retire_slot (m id)) id refl)) (retired_now (m id) legal.0)))
-settles_one f p final m (events.retire s id retiring.NotLive) h legal later cites = tt
+settles_one f p final m _ h legal later cites = tt
 
 settles_among : (f : Cnf) (p : LayoutValue) (set : ℕ → Bool) (final m : State) (h : History) → LegalFrom f p m h
     → ((id : ℕ) → IsRetired (run m h id) → IsRetired (final id))
@@ -52,10 +49,9 @@ settles_among f p set final m [] legal later cites = tt
 settles_among f p set final m (e ∷ h) legal later cites =
     let rest : AllByRecursion (Settles p final) (among set h) = settles_among f p set final (after m e) h legal.2 later cites.1 in
     elim (cases_Bool (set (stream_of e))) [
-      | inl member ↦ subst (AllByRecursion (Settles p final)) (sym (cond-true (set (stream_of e)) (e ∷ among set h) (among set h) member))
+      | inl member ↦ rw (cond-true (set (stream_of e)) (e ∷ among set h) (among set h) member)
           (settles_one f p final m e h legal later (cites.0 member), rest)
-      | inr other ↦
-          subst (AllByRecursion (Settles p final)) (sym (cond-false (set (stream_of e)) (e ∷ among set h) (among set h) other)) rest
+      | inr other ↦ rw (cond-false (set (stream_of e)) (e ∷ among set h) (among set h) other) rest
     ]
 
 -- Room
@@ -67,13 +63,11 @@ reduced_size (events.fetch s id events.vacant ∷ es) =
       | inl all ↦ ap (sum_by size_of) (reduced_kept (events.fetch s id events.vacant) es (ap not all)) ∙ reduced_size es
       | inr some ↦ ap (sum_by size_of) (reduced_left_out (events.fetch s id events.vacant) es (ap not some)) ∙ reduced_size es
     ]
-reduced_size (events.fetch s id (events.live c) ∷ es) = reduced_size es
-reduced_size (events.fetch s id events.retired ∷ es) = reduced_size es
 reduced_size (events.publish s id c r ∷ es) =
     sum_by-cons size_of (events.publish s id c r) (reduced es)
     ∙ ap (λ (n : ℕ). size_of (events.publish s id c r) + n) (reduced_size es)
     ∙ sym (sum_by-cons size_of (events.publish s id c r) es)
-reduced_size (events.retire s id r ∷ es) = reduced_size es
+reduced_size (_ ∷ es) = reduced_size es
 
 joined_size : (bs : List History) → sum_by size_of (joined (map reduced bs)) ≡ sum_by size_of (joined bs)
 joined_size [] = refl
@@ -93,9 +87,7 @@ own-blocks p final s [] all = refl
 own-blocks p final s (block ∷ blocks) all =
     own-append block.events (events_in blocks) s
     ∙ elim (cases_eq block.stream s) [
-      | inl same ↦
-          ap (λ (g : History). g ++ own (events_in blocks) s)
-          (own-all s block.events (subst (λ (t : ℕ). AllByRecursion (λ e. stream_of e ≡ t) block.events) same all.0.calls))
+      | inl same ↦ ap (λ (g : History). g ++ own (events_in blocks) s) (own-all s block.events (rw same at all.0.calls))
           ∙ ap (λ (g : History). block.events ++ g) (own-blocks p final s blocks all.1)
           ∙ sym (ap joined (blocks-same block blocks s same))
       | inr other ↦

@@ -1,15 +1,14 @@
 -- The premise about what is retired, stated for the final state, for events, and for the streams'
 -- lines.
-use Rattle.std.proofs.Common.{◌≡◌, ◌⊎◌, ◌-◌, ◌&&◌, ◌||◌, ℕ, Bool, eqb, List, [], ◌∷◌, ◌++◌, length, refl, sym, subst, ◌∙◌, inl, inr, ltb}
+use Rattle.std.proofs.Common.{◌≡◌, ◌⊎◌, ◌&&◌, ◌||◌, ℕ, Bool, eqb, List, [], ◌∷◌, length, refl, sym, subst, inl, inr, ltb}
 use Rattle.std.proofs.Common.{leb, eq-eqb, arith}
 use Rattle.std.specs.Prelude.{IsTrue}
 use Rattle.std.specs.List.{AllByRecursion, list_any}
 use Rattle.std.proofs.lemmas.Bool.{cases_eq, cases_Bool, cond-true, cond-false, or_right, or_left}
-use Rattle.std.proofs.lemmas.List.Folds.{list_any-append}
 use Rattle.lrup_model.specs.Formula.{Cnf, clause_at}
 use Rattle.lrup_model.specs.Layout.{LayoutValue, Owns}
 use Rattle.lrup_model.specs.Event as events
-use Rattle.lrup_model.specs.Event.{Event, Reply, History, stream_of, own}
+use Rattle.lrup_model.specs.Event.{Event, History, stream_of, own}
 use Rattle.lrup_model.specs.State.{State, absent, live, IsRetired, retire_slot, opening, after, run, state}
 use Rattle.lrup_model.specs.History.{IsAllowed, LegalFrom}
 use Rattle.lrup_model.specs.lemmas.HistoryLemmas.{put-same, put-other, own-mine, own-other}
@@ -17,35 +16,30 @@ use Rattle.lrup_model.specs.lemmas.OwnerLemmas.{IsOwned, owned}
 use Rattle.lrup_model.specs.declared.clause_map.Published.TheVariants as publishing
 use Rattle.lrup_model.specs.declared.clause_map.Retired.TheVariants as retiring
 use Rattle.lrup_text.specs.Lines.{StreamLine}
-use Rattle.lrup_text.specs.Laws.{BeginningCut, EveryCut}
 use Rattle.stream_check.specs.StreamContext.{is_among, deleted_by}
 use Rattle.stream_check.specs.Laws.{cited_by, FetchesOnly, CitedFetched}
 use Rattle.stream_check.specs.Streams.{stream_params}
-use Rattle.stream_check.specs.lemmas.StreamLemmas.{observed_from, observed_begins}
 use Rattle.stream_check.specs.Closed.{CiteWithin}
-use Rattle.run_laws.specs.Premises.{FindsKept, MeetsUnretired, IsRetireOf, HistoryRetires, cites, deletes, Cites}
-use Rattle.run_laws.specs.Premises.{SomeLineDeletes}
-use Rattle.run_laws.specs.OrderLaws.{OwnersAloneSuffices, SharedStays, BeginningsCite, ReadersShare, RetiresOnly}
-use Rattle.run_laws.specs.OrderLaws.{DeletedRetired}
+use Rattle.run_laws.specs.Premises.{FindsKept, MeetsUnretired, IsRetireOf, HistoryRetires, cites, deletes}
+use Rattle.run_laws.specs.OrderLaws.{OwnersAloneSuffices, SharedStays, RetiresOnly, DeletedRetired}
 use Rattle.run_laws.proofs.WalkLemmas.{own-calls}
-use Rattle.run_laws.proofs.StreamLemmas.{IsJudgedStream, judged_stream, is_inside, inside_owner, fetched_inside}
+use Rattle.run_laws.proofs.GroupLemmas.{is_within, owners_within}
+use Rattle.run_laws.proofs.StreamLemmas.{IsJudgedStream, judged_stream, fetched_inside}
 
 -- If an identity is retired after a history, it was retired in the history or before it
 
 gone_back : (m : State) (e : Event) (id : ℕ) → IsRetired (after m e id) → IsRetired (m id) ⊎ IsRetireOf id e
-gone_back m (events.fetch s j r) id is_dropped = inl is_dropped
 gone_back m (events.publish s j c publishing.Done) id is_dropped =
     elim (cases_eq id j) [
       | inl same ↦ absurd (subst IsRetired (put-same m j (live c) id same) is_dropped)
       | inr other ↦ inl (subst IsRetired (put-other m j (live c) id other) is_dropped)
     ]
-gone_back m (events.publish s j c publishing.Taken) id is_dropped = inl is_dropped
 gone_back m (events.retire s j retiring.Done) id is_dropped =
     elim (cases_eq id j) [
       | inl same ↦ inr (sym same)
       | inr other ↦ inl (subst IsRetired (put-other m j (retire_slot (m j)) id other) is_dropped)
     ]
-gone_back m (events.retire s j retiring.NotLive) id is_dropped = inl is_dropped
+gone_back m _ id is_dropped = inl is_dropped
 
 gone_retires : (m : State) (h : History) (id : ℕ) → IsRetired (run m h id) → IsRetired (m id) ⊎ HistoryRetires h id
 gone_retires m [] id is_dropped = inl is_dropped
@@ -61,10 +55,8 @@ gone_retires m (e ∷ h) id is_dropped =
 opening_kept : (f : Cnf) (id : ℕ) → IsRetired (opening f id) → ⊥
 opening_kept f id is_dropped =
     elim (cases_Bool (ltb 0 id && leb id (length f.clauses))) [
-      | inl formula ↦
-          absurd (subst IsRetired (cond-true (ltb 0 id && leb id (length f.clauses)) (live (clause_at f id)) absent formula) is_dropped)
-      | inr other ↦ absurd (subst IsRetired (cond-false (ltb 0 id && leb id (length f.clauses))
-          (live (clause_at f id)) absent other) is_dropped)
+      | inl formula ↦ absurd (rw (cond-true (ltb 0 id && leb id (length f.clauses)) (live (clause_at f id)) absent formula) at is_dropped)
+      | inr other ↦ absurd (rw (cond-false (ltb 0 id && leb id (length f.clauses)) (live (clause_at f id)) absent other) at is_dropped)
     ]
 
 opening_retires : (f : Cnf) (h : History) (id : ℕ) → IsRetired (state f h id) → HistoryRetires h id
@@ -77,11 +69,8 @@ opening_retires f h id is_dropped =
 -- Only owners find what is retired
 
 kept_found : (f : Cnf) (p : LayoutValue) (h : History) (e : Event) → MeetsUnretired p h e → FindsKept p (state f h) e
-kept_found f p h (events.fetch s id events.vacant) meets = tt
 kept_found f p h (events.fetch s id (events.live c)) meets = λ other is_dropped. meets tt other (opening_retires f h id is_dropped)
-kept_found f p h (events.fetch s id events.retired) meets = tt
-kept_found f p h (events.publish s id c r) meets = tt
-kept_found f p h (events.retire s id r) meets = tt
+kept_found f p h _ meets = tt
 
 all_kept : (f : Cnf) (p : LayoutValue) (h : History) (es : History)
     → AllByRecursion (MeetsUnretired p h) es → AllByRecursion (FindsKept p (state f h)) es
@@ -94,10 +83,8 @@ owners_alone_suffices f p set h alone s is member = all_kept f p h (own h s) (al
 -- Who retires an identity
 
 its_owner : (f : Cnf) (p : LayoutValue) (e : Event) (id : ℕ) → IsAllowed f p e → IsRetireOf id e → Owns p (stream_of e) id
-its_owner f p (events.fetch s j r) id allowed is = absurd is
-its_owner f p (events.publish s j c r) id allowed is = absurd is
 its_owner f p (events.retire s j retiring.Done) id allowed is = subst (λ (i : ℕ). Owns p s i) is allowed
-its_owner f p (events.retire s j retiring.NotLive) id allowed is = absurd is
+its_owner f p _ id allowed is = absurd is
 
 retires_more : (e : Event) (h : History) (t id : ℕ) → HistoryRetires (own h t) id → HistoryRetires (own (e ∷ h) t) id
 retires_more e h t id retires =
@@ -121,10 +108,8 @@ retirer f p m (e ∷ h) id legal (inr later) =
     (found.0, found.1, retires_more e h found.0 id found.2)
 
 retire_passes : (test : ℕ → Bool) (id : ℕ) (e : Event) → RetiresOnly test e → IsRetireOf id e → IsTrue (test id)
-retire_passes test id (events.fetch s j r) only is = absurd is
-retire_passes test id (events.publish s j c r) only is = absurd is
 retire_passes test id (events.retire s j retiring.Done) only is = subst (λ (i : ℕ). IsTrue (test i)) is only
-retire_passes test id (events.retire s j retiring.NotLive) only is = absurd is
+retire_passes test id _ only is = absurd is
 
 retired_passes : (test : ℕ → Bool) (id : ℕ) (es : History) → AllByRecursion (RetiresOnly test) es → HistoryRetires es id → IsTrue (test id)
 retired_passes test id [] all retires = absurd retires
@@ -170,11 +155,6 @@ module _ (named : StreamLine → List ℕ) where
     named_more (is_among (named line)) (is_named lines) lines (all_named lines),
   )
 
-  named_front : (lines others : List StreamLine) (id : ℕ) → IsTrue (is_named lines id) → IsTrue (is_named (lines ++ others) id)
-  named_front lines others id is =
-      list_any-append (λ line. is_among (named line) id) lines others
-      ∙ or_left (is_named lines id) (is_named others id) is
-
 -- Shared clauses stay
 
 shared_each : (p : LayoutValue) (final : State) (s : ℕ) (lines : List StreamLine) (inside : ℕ → Bool)
@@ -183,17 +163,11 @@ shared_each : (p : LayoutValue) (final : State) (s : ℕ) (lines : List StreamLi
     → AllByRecursion (FetchesOnly (cites lines)) es → AllByRecursion (FetchesOnly inside) es
     → AllByRecursion (FindsKept p final) es
 shared_each p final s lines inside stays [] calls cited within = tt
-shared_each p final s lines inside stays (events.fetch t id events.vacant ∷ es) calls cited within =
-    (tt, shared_each p final s lines inside stays es calls.1 cited.1 within.1)
 shared_each p final s lines inside stays (events.fetch t id (events.live c) ∷ es) calls cited within = (
   λ other. stays id cited.0 within.0 (λ mine. other (subst (λ (i : ℕ). Owns p i id) (sym calls.0) mine)),
   shared_each p final s lines inside stays es calls.1 cited.1 within.1,
 )
-shared_each p final s lines inside stays (events.fetch t id events.retired ∷ es) calls cited within =
-    (tt, shared_each p final s lines inside stays es calls.1 cited.1 within.1)
-shared_each p final s lines inside stays (events.publish t id c r ∷ es) calls cited within =
-    (tt, shared_each p final s lines inside stays es calls.1 cited.1 within.1)
-shared_each p final s lines inside stays (events.retire t id r ∷ es) calls cited within =
+shared_each p final s lines inside stays (_ ∷ es) calls cited within =
     (tt, shared_each p final s lines inside stays es calls.1 cited.1 within.1)
 
 pub shared_stays : CitedFetched → DeletedRetired → SharedStays
@@ -205,13 +179,13 @@ shared_stays cited_fetched deleted_retired f run_params set h streams reports fi
     = subst (AllByRecursion (FetchesOnly (cites my_lines.lines))) (sym mine.own_events)
     (cited_fetched (stream_params run_params s) mine.stream.bytes mine.end mine.blocks mine.report my_lines.lines my_lines.rest
     (cites my_lines.lines) mine.judges my_lines.cut (all_named cited_by my_lines.lines)) in
-    shared_each p (state f h) s my_lines.lines (is_inside p set)
+    shared_each p (state f h) s my_lines.lines (is_within p set)
     (λ id is_cited inside other is_dropped.
     let retires : (t : ℕ) × Owns p t id × HistoryRetires (own h t) id
     = retirer f p (opening f) h id legal.events (opening_retires f h id is_dropped) in
     let t : ℕ = retires.0 in
     let theirs : IsOwned p t id = owned p t id (omega (arith, is.0, is.1)) retires.1 in
-    let also : IsTrue (set t) = inside_owner p set id t inside retires.1 in
+    let also : IsTrue (set t) = owners_within p set id t inside retires.1 in
     let your : IsJudgedStream run_params h streams t
     = judged_stream run_params set h streams reports count judged t (theirs.first, theirs.last) also in
     let your_lines : CiteWithin p set your.stream.bytes = closed t your.stream also your.at in
@@ -224,37 +198,3 @@ shared_stays cited_fetched deleted_retired f run_params set h streams reports fi
     (my_lines.lines, my_lines.rest, my_lines.cut, is_cited)
     (your_lines.lines, your_lines.rest, your_lines.cut, retired_passes (deletes your_lines.lines) id (own h t) only retires.2))
     (own h s) (own-calls h s) cited (fetched_inside cited_fetched run_params set h streams s mine my_lines)
-
--- Prefixes
-
-pub beginnings_cite : BeginningCut → EveryCut → BeginningsCite
-beginnings_cite beginning every_cut bytes more id =
-    let whole = every_cut (bytes ++ more) in (
-      λ found.
-          let front = beginning bytes more found.0 whole.0 found.1 whole.1 found.2 whole.2 in (
-            whole.0,
-            whole.1,
-            whole.2,
-            subst (λ (ls : List StreamLine). IsTrue (cites ls id)) (sym front.1) (named_front cited_by found.0 front.0 id found.3),
-          ),
-      λ found.
-          let front = beginning bytes more found.0 whole.0 found.1 whole.1 found.2 whole.2 in (
-            whole.0,
-            whole.1,
-            whole.2,
-            subst (λ (ls : List StreamLine). IsTrue (deletes ls id)) (sym front.1) (named_front deleted_by found.0 front.0 id found.3),
-          ),
-    )
-
--- Readers
-
-pub readers_share : BeginningsCite → ReadersShare
-readers_share beginnings_cite p set observed streams match_inputs keeps s t id citing deleting other member also at yours owns
-    cited deleted =
-    let mine = observed_from observed streams (s - 1) citing match_inputs at.1 in
-    let theirs = observed_from observed streams (t - 1) deleting match_inputs yours.1 in
-    let kept = keeps s t id mine.observation theirs.observation other member also (at.0, mine.at) (yours.0, theirs.at) owns in
-    let front = observed_begins mine.observation kept.0 citing mine.matches_input kept.2 in
-    let following = observed_begins theirs.observation kept.1 deleting theirs.matches_input kept.3 in
-    kept.4 (subst (λ (bytes : List ℕ). Cites bytes id) (sym front.1) ((beginnings_cite citing.bytes front.0 id).0 cited))
-    (subst (λ (bytes : List ℕ). SomeLineDeletes bytes id) (sym following.1) ((beginnings_cite deleting.bytes following.0 id).1 deleted))

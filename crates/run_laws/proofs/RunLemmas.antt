@@ -5,7 +5,6 @@ use Rattle.std.proofs.Common.{append-nil, arith}
 use Rattle.std.specs.Prelude.{IfSome, IsSome, MatchOption}
 use Rattle.std.specs.List.{AllZip}
 use Rattle.std.specs.Io.KnownBytes.{Consumes}
-use Rattle.std.proofs.lemmas.List.{append_cancel_right}
 use Rattle.std.proofs.lemmas.Option.{slice_get_within}
 use Rattle.lrup_model.specs.Formula.{Cnf}
 use Rattle.lrup_model.specs.Layout.{LayoutValue, Fits}
@@ -24,7 +23,7 @@ use Rattle.stream_check.specs.Closed.{IsOfStream, CiteWithin, IsClosed}
 use Rattle.stream_check.specs.lemmas.StreamLemmas.{observed_from, observed_begins, same_at, judged_count}
 use Rattle.run_laws.specs.Groups.{one, IsGroup, IsRun, NoneExcused}
 use Rattle.run_laws.specs.GroupLaws.{BeginningsWithin, ReadersClosed, ClosedIsGroup, AloneHasOneReport, RunIsolated}
-use Rattle.run_laws.specs.GroupLaws.{MatchIsReading, FailedIsReading, SameReadingAgrees, SameBytesAgree}
+use Rattle.run_laws.specs.GroupLaws.{MatchIsReading, SameReadingAgrees, SameBytesAgree}
 use Rattle.run_laws.proofs.Places.{has_place, judged_at, judged_fewer}
 use Rattle.run_laws.specs.lemmas.ReportLemmas.{only}
 use Rattle.run_laws.proofs.AloneLemmas.{ReadsTo, me, own-one}
@@ -37,8 +36,7 @@ pub observed_at : (observed : List InputObservation) (streams : List Stream) (s 
     → MatchesInput observation stream
 observed_at observed streams s observation stream match_inputs here at =
     let was = observed_from observed streams (s - 1) stream match_inputs at.1 in
-    subst (λ (t : InputObservation). MatchesInput t stream) (same_at observed s was.observation observation (here.0, was.at) here)
-    was.matches_input
+    rw (same_at observed s was.observation observation (here.0, was.at) here) at was.matches_input
 
 observed_within : BeginningsWithin → (p : LayoutValue) (set : ℕ → Bool) (observation : InputObservation) (whole : List ℕ) (stream : Stream)
     → MatchesInput observation stream → observation.entry ≡ Some whole → CiteWithin p set whole → CiteWithin p set stream.bytes
@@ -70,27 +68,7 @@ observed_reads (Some left) None whole bytes unneeded took ends needed = (unneede
 pub match_is_reading : MatchIsReading
 match_is_reading observed streams s observation stream whole match_inputs here at entry fine =
     let is = observed_at observed streams s observation stream match_inputs here at in
-    observed_reads observation.left stream.end whole stream.bytes stream.unneeded
-    (subst (λ (e : Option (List ℕ)). Consumes e observation.left (stream.bytes ++ stream.unneeded)) entry is.consumes)
-    (subst (EndsWith stream.end observation.left) fine is.ends) is.needed
-
-failure_reads : (left : List ℕ) (its : Option StreamEnd) (whole bytes unneeded : List ℕ)
-    → whole ++ left ≡ (bytes ++ unneeded) ++ left → EndsWith its (Some left) true → (IsSome its → unneeded ≡ [])
-    → ReadsTo its bytes whole stream_ends.Failed
-failure_reads left (Some stream_ends.Ended) whole bytes unneeded took ends needed = absurd (let no : true ≡ false = ends.1 in cc)
-failure_reads left (Some stream_ends.Failed) whole bytes unneeded took ends needed =
-    (append_cancel_right whole (bytes ++ unneeded) left took ∙ ap (λ l. bytes ++ l) (needed refl) ∙ append-nil bytes, refl)
-failure_reads left None whole bytes unneeded took ends needed = absurd (let no : true ≡ false = ends in cc)
-
-pub failed_is_reading : FailedIsReading
-failed_is_reading observed streams s observation stream whole left match_inputs here at entry has fails =
-    let is = observed_at observed streams s observation stream match_inputs here at in
-    let read = stream.bytes ++ stream.unneeded in
-    failure_reads left stream.end whole stream.bytes stream.unneeded
-    (subst (λ (l : Option (List ℕ)). Consumes (Some (whole ++ left)) l read) has
-    (subst (λ (e : Option (List ℕ)). Consumes e observation.left read) entry is.consumes))
-    (subst (λ (l : Option (List ℕ)). EndsWith stream.end l true) has
-    (subst (EndsWith stream.end observation.left) fails is.ends)) is.needed
+    observed_reads observation.left stream.end whole stream.bytes stream.unneeded (rw entry at is.consumes) (rw fine at is.ends) is.needed
 
 -- A run
 
@@ -170,9 +148,8 @@ pub judged_to : DecidedBeforeFailure → (c : StreamParams) (its : Option Stream
     → JudgesBlocks c whole stream_ends.Ended blocks report
 judged_to law c its bytes unneeded whole None has_failed blocks report took ends needed machine j = absurd took
 judged_to law c (Some stream_ends.Ended) bytes unneeded whole (Some left) has_failed blocks report took ends needed machine j =
-    subst (λ b. JudgesBlocks c b stream_ends.Ended blocks report)
-    (sym (took ∙ ap (λ l. (bytes ++ unneeded) ++ l) ends.0 ∙ append-nil (bytes ++ unneeded) ∙ ap (λ l. bytes ++ l) (needed refl)
-    ∙ append-nil bytes)) (j stream_ends.Ended refl)
+    rw (took ∙ ap (λ l. (bytes ++ unneeded) ++ l) ends.0 ∙ append-nil (bytes ++ unneeded) ∙ ap (λ l. bytes ++ l) (needed refl) ∙ append-nil
+    bytes) (j stream_ends.Ended refl)
 judged_to law c (Some stream_ends.Failed) bytes unneeded whole (Some left) has_failed blocks report took ends needed machine j =
     subst (λ b. JudgesBlocks c b stream_ends.Ended blocks report) (sym (took ∙ append_assoc bytes unneeded left))
     (law c bytes (unneeded ++ left) stream_ends.Ended blocks report machine (j stream_ends.Failed refl))
@@ -212,8 +189,7 @@ whole_judged within group decided f run_params s whole observed observation repo
         events = sym (own-one s g.history g.members) ∙ j.1;
         judges =
             judged_to decided (stream_params run_params s) stream.end stream.bytes stream.unneeded whole observation.left
-            observation.has_failed j.0 report
-            (subst (λ (e : Option (List ℕ)). Consumes e observation.left (stream.bytes ++ stream.unneeded)) entry is.consumes) is.ends
+            observation.has_failed j.0 report (rw entry at is.consumes) is.ends
             is.needed machine j.2;
       };
     }

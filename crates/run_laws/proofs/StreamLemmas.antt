@@ -4,11 +4,11 @@ use Rattle.std.proofs.Common.{subst, ◌∙◌, inl, inr, arith, ne_eqb, eq-eqb}
 use Rattle.std.specs.Prelude.{IsTrue, slice_get}
 use Rattle.std.specs.List.{AllByRecursion}
 use Rattle.std.proofs.lemmas.Bool.{cases_Bool, cond-true, cond-false, true≢false}
-use Rattle.lrup_model.specs.Layout.{LayoutValue, IsStream, Owns, owner}
+use Rattle.lrup_model.specs.Layout.{LayoutValue, IsStream, owner}
 use Rattle.lrup_model.specs.declared.layout.Owner.{Owner}
 use Rattle.lrup_model.specs.declared.layout.Owner.TheVariants as owners
 use Rattle.lrup_model.specs.Event as events
-use Rattle.lrup_model.specs.Event.{Event, History, stream_of, own}
+use Rattle.lrup_model.specs.Event.{History, stream_of, own}
 use Rattle.lrup_model.specs.lemmas.OwnerLemmas.{IsOwned, owned}
 use Rattle.lrup_model.specs.Laws.{FindsWithin}
 use Rattle.lrup_text.specs.Lines.{StreamLine}
@@ -27,6 +27,7 @@ use Rattle.stream_check.specs.lemmas.EachLemmas.{each_at, each_count, each_more,
 use Rattle.stream_check.specs.lemmas.StreamLemmas.{IsJudgedBy, some_end}
 use Rattle.run_laws.specs.Lines.{IsOrder}
 use Rattle.run_laws.specs.OrderLaws.{JudgedBlocks, LinesOrdered, ClosedOrdered, AllClosed, AllOrdered, RunSerializable}
+use Rattle.run_laws.proofs.GroupLemmas.{owned_by, is_within, owners_within}
 use Rattle.run_laws.proofs.OrderLemmas.{streams_in, streams_are, are_streams, own_each}
 use Rattle.run_laws.proofs.Places.{has_place}
 
@@ -139,56 +140,43 @@ judged_stream run_params set h streams reports count judged s is member =
 
 -- Closed sets
 
--- this owner isn't a stream outside the set
-pub inside_for : (ℕ → Bool) → Owner → Bool
-inside_for set owners.Formula = true
-inside_for set (owners.Stream t) = set t
-inside_for set owners.Outside = true
-
-pub is_inside : LayoutValue → (ℕ → Bool) → ℕ → Bool
-is_inside p set id = inside_for set (owner p id)
-
 within_inside : (p : LayoutValue) (set : ℕ → Bool) (id : ℕ) (o : Owner) → owner p id ≡ o → IsOwnedWithin p set id
-    → IsTrue (inside_for set o)
-unfolding inside_for
+    → IsTrue (owned_by set o)
+unfolding owned_by
 within_inside p set id owners.Formula is within = refl
 within_inside p set id (owners.Stream t) is within = within t is
 within_inside p set id owners.Outside is within = refl
 
-pub inside_owner : (p : LayoutValue) (set : ℕ → Bool) (id t : ℕ) → IsTrue (is_inside p set id) → Owns p t id → IsTrue (set t)
-unfolding inside_for is_inside
-inside_owner p set id t inside owns = subst (λ (o : Owner). IsTrue (inside_for set o)) owns inside
-
 ids_inside : (p : LayoutValue) (set : ℕ → Bool) (ids : List ℕ)
-    → AllByRecursion (IsOwnedWithin p set) ids → AllByRecursion (λ id. IsTrue (is_inside p set id)) ids
-unfolding is_inside
+    → AllByRecursion (IsOwnedWithin p set) ids → AllByRecursion (λ id. IsTrue (is_within p set id)) ids
+unfolding is_within
 ids_inside p set [] all = tt
 ids_inside p set (id ∷ ids) all = (within_inside p set id (owner p id) refl all.0, ids_inside p set ids all.1)
 
 lines_inside : (p : LayoutValue) (set : ℕ → Bool) (lines : List StreamLine)
     → AllByRecursion (λ line. AllByRecursion (IsOwnedWithin p set) (cited_by line)) lines
-    → AllByRecursion (λ line. AllByRecursion (λ id. IsTrue (is_inside p set id)) (cited_by line)) lines
+    → AllByRecursion (λ line. AllByRecursion (λ id. IsTrue (is_within p set id)) (cited_by line)) lines
 lines_inside p set [] all = tt
 lines_inside p set (line ∷ lines) all = (ids_inside p set (cited_by line) all.0, lines_inside p set lines all.1)
 
 -- a stream of a closed set fetches no identity of a stream outside it
 pub fetched_inside : CitedFetched → (run_params : RunParamsValue) (set : ℕ → Bool) (h : History) (streams : List Stream) (s : ℕ)
     → (judged : IsJudgedStream run_params h streams s) → CiteWithin run_params.layout set judged.stream.bytes
-    → AllByRecursion (FetchesOnly (is_inside run_params.layout set)) (own h s)
+    → AllByRecursion (FetchesOnly (is_within run_params.layout set)) (own h s)
 fetched_inside law run_params set h streams s judged closed =
-    subst (AllByRecursion (FetchesOnly (is_inside run_params.layout set))) (sym judged.own_events)
+    subst (AllByRecursion (FetchesOnly (is_within run_params.layout set))) (sym judged.own_events)
     (law (stream_params run_params s) judged.stream.bytes judged.end judged.blocks judged.report closed.lines closed.rest
-    (is_inside run_params.layout set) judged.judges closed.cut (lines_inside run_params.layout set closed.lines closed.within))
+    (is_within run_params.layout set) judged.judges closed.cut (lines_inside run_params.layout set closed.lines closed.within))
 
 finds_within : (p : LayoutValue) (set : ℕ → Bool) (h : History)
-    → AllByRecursion (λ e. IsTrue (streams_in p set (stream_of e)) → FetchesOnly (is_inside p set) e) h
+    → AllByRecursion (λ e. IsTrue (streams_in p set (stream_of e)) → FetchesOnly (is_within p set) e) h
     → AllByRecursion (FindsWithin p (streams_in p set)) h
 finds_within p set [] all = tt
 finds_within p set (events.fetch s id r ∷ h) all = (
   λ member found t owns.
       let caller : IsTrue (set s) × IsStream p s = streams_are p set s member in
       let theirs : IsOwned p t id = owned p t id (omega (arith, caller.1.0, caller.1.1)) owns in
-      are_streams p set t (inside_owner p set id t (all.0 member) owns) (theirs.first, theirs.last),
+      are_streams p set t (owners_within p set id t (all.0 member) owns) (theirs.first, theirs.last),
   finds_within p set h all.1,
 )
 finds_within p set (events.publish s id c r ∷ h) all = (tt, finds_within p set h all.1)
@@ -212,7 +200,7 @@ closed_ordered lines_ordered judged_blocks cited_fetched reduced_stream f run_pa
     let found : (s : ℕ) → IsStream p s → IsTrue (set s) → IsJudgedAt run_params set h all.0 streams (s - 1) s
     = λ s is member. judged_at run_params set h all.0 streams reports all.1 s is.0 (omega (arith, is.1, count)) member in
     let finds : AllByRecursion (FindsWithin p inside) h
-    = finds_within p set h (own_each (FetchesOnly (is_inside p set)) inside h (λ s member.
+    = finds_within p set h (own_each (FetchesOnly (is_within p set)) inside h (λ s member.
     let is : IsTrue (set s) × IsStream p s = streams_are p set s member in
     let one : IsJudgedStream run_params h streams s = judged_stream run_params set h streams reports count judged s is.1 is.0 in
     fetched_inside cited_fetched run_params set h streams s one (closed s one.stream is.0 one.at))) in

@@ -56,13 +56,11 @@ identity_of (events.publish s id c r) = id
 identity_of (events.retire s id r) = id
 
 pub answers-agree : (m n : State) (e : Event) → m (identity_of e) ≡ n (identity_of e) → Answers m e → Answers n e
-answers-agree m n (events.fetch s id events.vacant) is answers = sym is ∙ answers
-answers-agree m n (events.fetch s id (events.live c)) is answers = sym is ∙ answers
 answers-agree m n (events.fetch s id events.retired) is answers = subst IsRetired is answers
-answers-agree m n (events.publish s id c publishing.Done) is answers = sym is ∙ answers
 answers-agree m n (events.publish s id c publishing.Taken) is answers = λ none. answers (is ∙ none)
 answers-agree m n (events.retire s id retiring.Done) is answers = subst IsLive is answers
 answers-agree m n (events.retire s id retiring.NotLive) is answers = λ alive. answers (subst IsLive (sym is) alive)
+answers-agree m n _ is answers = sym is ∙ answers
 
 pub legal-agrees : (f : Cnf) (p : LayoutValue) (m n : State) (h : History) → ((id : ℕ) → m id ≡ n id) → LegalFrom f p m h
     → LegalFrom f p n h
@@ -102,15 +100,11 @@ not_absent x c is none = absurd (cc)
 live_stays : (f : Cnf) (p : LayoutValue) (final m : State) (s id : ℕ) (c : Clause) (d : Event)
     → (s ≡ stream_of d → ⊥) → IsAllowed f p d → Settles p final (events.fetch s id (events.live c)) → Settles p final d
     → m id ≡ live c → Answers m d → after m d id ≡ live c
-live_stays f p final m s id c (events.fetch t j r) other also settles too is answers = is
 live_stays f p final m s id c (events.publish t j x publishing.Done) other also settles too is answers =
     put-other m j (live x) id (λ same. not_absent (m id) c is (subst (λ (i : ℕ). m i ≡ absent) (sym same) answers)) ∙ is
-live_stays f p final m s id c (events.publish t j x publishing.Taken) other also settles too is answers = is
 live_stays f p final m s id c (events.retire t j retiring.Done) other also settles too is answers =
-    put-other m j (retire_slot (m j)) id (λ same. settles
-    (λ mine. other (one_owner p s t id mine (subst (λ (i : ℕ). Owns p t i) (sym same) also)))
-    (subst (λ (i : ℕ). IsRetired (final i)) (sym same) too)) ∙ is
-live_stays f p final m s id c (events.retire t j retiring.NotLive) other also settles too is answers = is
+    put-other m j (retire_slot (m j)) id (λ same. settles (λ mine. other (one_owner p s t id mine (rw same also))) (rw same too)) ∙ is
+live_stays f p final m s id c _ other also settles too is answers = is
 
 -- a fetch that found something has the same reply after another stream's event
 then-answers : (f : Cnf) (p : LayoutValue) (final m : State) (e d : Event)
@@ -172,9 +166,8 @@ fetch-after : (p : LayoutValue) (final m : State) (s id t j : ℕ) (r : Reply)
 fetch-after p final m s id t j events.vacant other owns is_dropped settles alive answers =
     put-other m id (retire_slot (m id)) j (λ same. alive_some (m id) alive (subst (λ (i : ℕ). m i ≡ absent) same answers)) ∙ answers
 fetch-after p final m s id t j (events.live c) other owns is_dropped settles alive answers =
-    put-other m id (retire_slot (m id)) j (λ same. settles
-    (λ theirs. other (one_owner p s t id owns (subst (λ (i : ℕ). Owns p t i) same theirs)))
-    (subst (λ (i : ℕ). IsRetired (final i)) (sym same) is_dropped)) ∙ answers
+    put-other m id (retire_slot (m id)) j (λ same. settles (λ theirs. other (one_owner p s t id owns (rw same at theirs)))
+    (rw same is_dropped)) ∙ answers
 fetch-after p final m s id t j events.retired other owns is_dropped settles alive answers =
     gone_stays (m j) (after m (events.retire s id retiring.Done) j) (after-advances m (events.retire s id retiring.Done) j alive) answers
 

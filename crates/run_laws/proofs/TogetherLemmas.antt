@@ -311,21 +311,17 @@ steps_cite p set (step ∷ steps) bases within members valid t =
           (cond-false (eqb n s) (after_line (bases n) step.line) (beside_line p s (bases n) step.line) (ne_eqb n s apart))) ∙ is)
     ]) members.1 valid.1 t in
     elim (cases_eq s t) [
-      | inl same ↦ subst (AllByRecursion (λ line. AllByRecursion (IsOwnedWithin p set) (cited_by line)))
-          (sym (cond-true (eqb s t) (step.line ∷ lines_by t steps) (lines_by t steps) (eq-eqb s t same))) (cites, rest)
-      | inr apart ↦ subst (AllByRecursion (λ line. AllByRecursion (IsOwnedWithin p set) (cited_by line)))
-          (sym (cond-false (eqb s t) (step.line ∷ lines_by t steps) (lines_by t steps) (ne_eqb s t apart))) rest
+      | inl same ↦ rw (cond-true (eqb s t) (step.line ∷ lines_by t steps) (lines_by t steps) (eq-eqb s t same)) (cites, rest)
+      | inr apart ↦ rw (cond-false (eqb s t) (step.line ∷ lines_by t steps) (lines_by t steps) (ne_eqb s t apart)) rest
     ]
 
 lines_limits : (steps : List Step) (t : ℕ) → AllByRecursion (λ step. IsWithinLimits step.line) steps
     → AllByRecursion IsWithinLimits (lines_by t steps)
 lines_limits [] t all = tt
 lines_limits (step ∷ steps) t all = elim (cases_eq step.stream t) [
-  | inl same ↦ subst (AllByRecursion IsWithinLimits)
-      (sym (cond-true (eqb step.stream t) (step.line ∷ lines_by t steps) (lines_by t steps) (eq-eqb step.stream t same)))
+  | inl same ↦ rw (cond-true (eqb step.stream t) (step.line ∷ lines_by t steps) (lines_by t steps) (eq-eqb step.stream t same))
       (all.0, lines_limits steps t all.1)
-  | inr apart ↦ subst (AllByRecursion IsWithinLimits)
-      (sym (cond-false (eqb step.stream t) (step.line ∷ lines_by t steps) (lines_by t steps) (ne_eqb step.stream t apart)))
+  | inr apart ↦ rw (cond-false (eqb step.stream t) (step.line ∷ lines_by t steps) (lines_by t steps) (ne_eqb step.stream t apart))
       (lines_limits steps t all.1)
 ]
 
@@ -465,10 +461,8 @@ module _ (taken : GoodLineTaken) (fresh : FreshLeft) (ends : EndJudged)
           events = λ t. (all.each t).events ∙ ap joined (all.each t).are_own;
           judged = λ t.
               let its = all.each t in
-              subst (λ (bs : List History). JudgesBlocks (stream_params run_params t) (flat_map line_text (lines_by t steps))
-              stream_ends.Ended bs
-              (valid_report run_params t (lines_by t steps))) its.are_own
-              (ended_report ends empty_cut one_cut run_params t (lines_by t steps) its.more its.going its.pending
+              rw its.are_own
+              at (ended_report ends empty_cut one_cut run_params t (lines_by t steps) its.more its.going its.pending
               (lines_limits steps t valid.fits) its.reaches);
         },
       )

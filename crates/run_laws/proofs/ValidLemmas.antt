@@ -115,8 +115,7 @@ lines_go taken f c fits some [] base m bytes blocks old pending a limits valid r
   room = omega arith;
   going = old;
   pending = pending;
-  reaches = subst (λ (b : List ℕ). ReachesState c b (blocks ++ []) (Going old)) (sym (append-nil bytes))
-      (subst (λ (b : List History). ReachesState c bytes b (Going old)) (sym (append-nil blocks)) reaches);
+  reaches = rw (append-nil bytes, append-nil blocks) reaches;
 }
 lines_go taken f c fits some (line ∷ lines) base m bytes blocks old pending a limits valid reaches =
     let goes : Goes f c base old.context m line = line_goes f c base old.context m line fits some a limits.0 valid.0 in
@@ -136,10 +135,8 @@ lines_go taken f c fits some (line ∷ lines) base m bytes blocks old pending a 
       room = omega (arith, sum_by-append size_of goes.block (joined rest.more), goes.room, rest.room);
       going = rest.going;
       pending = rest.pending;
-      reaches = subst (λ (b : List ℕ). ReachesState c b (blocks ++ goes.block ∷ rest.more) (Going rest.going))
-          (append_assoc bytes (line_text line) (flat_map line_text lines))
-          (subst (λ (b : List History). ReachesState c ((bytes ++ line_text line) ++ flat_map line_text lines) b (Going rest.going))
-          (append_assoc blocks (goes.block ∷ []) rest.more) rest.reaches);
+      reaches = rw (append_assoc blocks (goes.block ∷ []) rest.more, append_assoc bytes (line_text line) (flat_map line_text lines))
+          at rest.reaches;
     }
 
 -- The whole stream
@@ -240,8 +237,7 @@ module _ (taken : GoodLineTaken) (fresh : FreshLeft) (ends : EndJudged)
           judges = record {
             blocks = on.more;
             events = refl;
-            judges = subst (λ (b : List ℕ). JudgesBlocks c b stream_ends.Ended on.more (valid_report run_params s lines))
-                (sym valid.text) whole;
+            judges = rw valid.text whole;
           };
         },
         on.callers,

@@ -10,7 +10,7 @@ use Rattle.lrup_model.specs.Distinct.{distinct}
 use Rattle.lrup_model.specs.lemmas.DistinctLemmas.{IsClause-distinct, length-distinct}
 use Rattle.lrup_model.specs.Entailment.{Follows}
 use Rattle.lrup_model.specs.Event as events
-use Rattle.lrup_model.specs.Event.{Event, History, Reply, stream_of, size_of}
+use Rattle.lrup_model.specs.Event.{History, stream_of, size_of}
 use Rattle.lrup_model.specs.Formula.{Cnf}
 use Rattle.lrup_model.specs.History.{LegalFrom}
 use Rattle.lrup_model.specs.lemmas.HistoryLemmas.{put, put-same, put-other, vacant_above_stays}
@@ -29,7 +29,7 @@ use Rattle.stream_check.specs.declared.params.Ownership.{Ownership}
 use Rattle.stream_check.specs.declared.params.Ownership.TheVariants as ownerships
 use Rattle.stream_check.specs.lemmas.AdditionLemmas.{literals_within}
 use Rattle.stream_check.specs.Additions.{IsValidAddition, published_by}
-use Rattle.stream_check.specs.Lookup.{FetchesHintAt, FetchesHint, AreFound}
+use Rattle.stream_check.specs.Lookup.{FetchesHint, AreFound}
 use Rattle.stream_check.specs.Deletions.{DeletesAt, DropsThen, JudgesDeletion}
 use Rattle.stream_check.specs.Imports.{IsValidImport}
 use Rattle.stream_check.specs.Judging.{JudgesLine}
@@ -61,8 +61,7 @@ pub alone_valid : (p : LayoutValue) (s : ℕ) (lines : List StreamLine) (bases :
 alone_valid p s [] bases valid = tt
 alone_valid p s (line ∷ lines) bases valid = (
   valid.0,
-  subst (λ (base : Database). AreValid p s base lines) (after_own p s line bases)
-      (alone_valid p s lines (after_step p (record { stream = s; line = line }) bases) valid.1),
+  rw (after_own p s line bases) at (alone_valid p s lines (after_step p (record { stream = s; line = line }) bases) valid.1),
 )
 
 -- Who owns an identity
@@ -147,16 +146,11 @@ formulas_near p id is =
 
 asks_once : (c : StreamParams) (id : ℕ) (d : Clause) → IsOneOf c.layout id
     → FetchesHint c id (events.fetch c.stream id (events.live d) ∷ []) (events.live d)
-asks_once c id d (inl is) =
-    subst (λ (ownership : Ownership). FetchesHintAt ownership c id (events.fetch c.stream id (events.live d) ∷ []) (events.live d))
-    (sym (formulas_ownership c id is)) refl
+asks_once c id d (inl is) = rw (formulas_ownership c id is) refl
 asks_once c id d (inr its) = elim (cases_eq its.0 c.stream) [
-  | inl same ↦
-      subst (λ (ownership : Ownership). FetchesHintAt ownership c id (events.fetch c.stream id (events.live d) ∷ []) (events.live d))
-      (sym (own_ownership c id (subst (λ (t : ℕ). Owns c.layout t id) same its.1))) refl
+  | inl same ↦ rw (own_ownership c id (rw same at its.1)) refl
   | inr other ↦
-      subst (λ (ownership : Ownership). FetchesHintAt ownership c id (events.fetch c.stream id (events.live d) ∷ []) (events.live d))
-      (sym (others_ownership c id its.0 its.1 other))
+      rw (others_ownership c id its.0 its.1 other)
       (0, omega arith, (λ vacant. absurd (let no : events.live d ≡ events.vacant = vacant in cc)), refl)
 ]
 
@@ -223,16 +217,15 @@ addition_goes f c base st m id lits hints fits some a limits valid =
     let found : Finds f c st.is_dropped m hints valid.clauses = finds f c base st m hints valid.clauses some a valid.named in
     let e = published_by c id lits in
     let clause = distinct lits in
-    let is_clause : IsClause f.vars clause = subst (λ (n : ℕ). IsClause n clause) fits.vars
-    (IsClause-distinct c.layout.vars lits (literals_within c.layout.vars lits limits.1.each valid.literals)) in
+    let is_clause =
+    rw fits.vars at (IsClause-distinct c.layout.vars lits (literals_within c.layout.vars lits limits.1.each valid.literals)) in
     let follows : Follows f clause = propagation_sound f clause valid.clauses found.sound valid.shown in
     let after : run m (found.fetches ++ e ∷ []) ≡ put m id (live clause) =
     run-append m found.fetches (e ∷ []) ∙ ap (λ (n : State). run n (e ∷ [])) found.still in
     let absent_there : m id ≡ absent = a.vacant id valid.owns valid.above in
     let block = found.fetches ++ e ∷ [] in
     let line = Addition id lits hints in
-    let legal : LegalFrom f c.layout m block = legal-append f c.layout m found.fetches (e ∷ []) found.legal
-    (subst (λ (n : State). LegalFrom f c.layout n (e ∷ [])) (sym found.still) (
+    let legal : LegalFrom f c.layout m block = legal-append f c.layout m found.fetches (e ∷ []) found.legal (rw found.still (
       absent_there,
       (valid.owns, record { clause = is_clause; length = omega (arith, length-distinct lits, limits.1.count); follows = follows }),
       tt,
@@ -261,7 +254,7 @@ addition_goes f c base st m id lits hints fits some a limits valid =
       legal = legal;
       callers = callers;
       room = omega (arith, sum_by-append size_of found.fetches (e ∷ []), sum_by-cons size_of e [], found.size, valid.room);
-      next = subst (Agrees f c.layout c.stream (after_line base line) (context_after c st line)) (sym after) (record {
+      next = rw after (record {
         last = refl;
         free = omega (arith, sum_by-cons (λ (x : ℕ × Clause). length x.1) (id, clause) [], a.free);
         there = λ j d is. elim (cases_eq j id) [
@@ -269,12 +262,11 @@ addition_goes f c base st m id lits hints fits some a limits valid =
           | inr other ↦ put-other m id (live clause) j other ∙ a.there j d (other_there j (base.clauses j) d other is)
         ];
         kept = λ j d is. elim (cases_eq j id) [
-          | inl same ↦ neither (st.is_dropped j) (is_shared (ownership_of c j))
-              (a.own j (subst (Owns c.layout c.stream) (sym same) valid.owns))
+          | inl same ↦ neither (st.is_dropped j) (is_shared (ownership_of c j)) (a.own j (rw same valid.owns))
           | inr other ↦ neither (st.is_dropped j) (is_shared (ownership_of c j)) (a.kept j d (other_there j (base.clauses j) d other is))
         ];
         known = λ j d is. elim (cases_eq j id) [
-          | inl same ↦ inr (c.stream, subst (Owns c.layout c.stream) (sym same) valid.owns)
+          | inl same ↦ inr (c.stream, rw same valid.owns)
           | inr other ↦ a.known j d (other_there j (base.clauses j) d other is)
         ];
         sound = λ j d is. elim (cases_eq j id) [
@@ -288,7 +280,7 @@ addition_goes f c base st m id lits hints fits some a limits valid =
         vacant = λ j owns above. put-other m id (live clause) j (λ same. omega (arith, same, above))
             ∙ a.vacant j owns (omega (arith, above, valid.above));
       });
-      beside = λ t its also other b. subst (Agrees f c.layout t (beside_line c.layout c.stream its line) also) (sym after) (record {
+      beside = λ t its also other b. rw after (record {
         last = b.last;
         free = b.free;
         there = λ j d is. elim (cases_eq j id) [
@@ -300,7 +292,7 @@ addition_goes f c base st m id lits hints fits some a limits valid =
           | inr apart ↦ b.kept j d (other_there j (its.clauses j) d apart is)
         ];
         known = λ j d is. elim (cases_eq j id) [
-          | inl same ↦ inr (c.stream, subst (Owns c.layout c.stream) (sym same) valid.owns)
+          | inl same ↦ inr (c.stream, rw same valid.owns)
           | inr apart ↦ b.known j d (other_there j (its.clauses j) d apart is)
         ];
         sound = λ j d is. elim (cases_eq j id) [
@@ -309,8 +301,7 @@ addition_goes f c base st m id lits hints fits some a limits valid =
         ];
         own = b.own;
         unseen = λ j is. b.unseen j (was_absent f c.layout m block j legal (ap (λ (n : State). n j) after ∙ is));
-        vacant = subst (λ (n : State). AreVacantAbove c.layout t n its.last) after
-            (vacant_above_stays f c.layout m block t its.last legal (not_callers c.stream t block other callers) b.vacant);
+        vacant = rw after at (vacant_above_stays f c.layout m block t its.last legal (not_callers c.stream t block other callers) b.vacant);
       });
     }
 
@@ -377,10 +368,7 @@ dropped f c is_dropped earlier ids id m can all once go ownership is at =
     let rest = go m (still c is_dropped earlier ids id m m (λ j other. refl) once all) in
     record {
       block = rest.block;
-      judged =
-          subst (λ (x : Ownership). DeletesAt x c is_dropped earlier id rest.block Good
-          (λ es. JudgesDeletion c is_dropped (earlier ++ id ∷ []) ids es Good))
-          (sym is) (at rest.block (inr (or_none (is_dropped id) (is_among earlier id) can.kept can.new, rest.judged)));
+      judged = rw is (at rest.block (inr (or_none (is_dropped id) (is_among earlier id) can.kept can.new, rest.judged)));
       legal = rest.legal;
       callers = rest.callers;
       size = rest.size;
@@ -399,23 +387,20 @@ deletes_one f c is_dropped earlier ids id m can all once go (inr its) = elim (ca
   | inr other ↦ dropped f c is_dropped earlier ids id m can all once go ownerships.Foreign (others_ownership c id its.0 its.1 other)
       (λ es at. at)
   | inl same ↦
-      let owns : Owns c.layout c.stream id = subst (λ (t : ℕ). Owns c.layout t id) same its.1 in
+      let owns : Owns c.layout c.stream id = rw same at its.1 in
       let n = put m id (retire_slot (m id)) in
       let rest = go n (still c is_dropped earlier ids id m n (λ j other. put-other m id (retire_slot (m id)) j other) once all) in
       let e = events.retire c.stream id retiring.Done in
       record {
         block = e ∷ rest.block;
-        judged = subst (λ (ownership : Ownership). DeletesAt ownership c is_dropped earlier id (e ∷ rest.block) Good
-            (λ es. JudgesDeletion c is_dropped (earlier ++ id ∷ []) ids es Good))
-            (sym (own_ownership c id owns)) (record { rest = rest.block; decided = inl (refl, rest.judged) });
+        judged = rw (own_ownership c id owns) (record { rest = rest.block; decided = inl (refl, rest.judged) });
         legal = (can.alive, owns, rest.legal);
         callers = (refl, rest.callers);
         size = omega (arith, sum_by-cons size_of e rest.block, rest.size);
         apart = λ j out.
             let parts = not_or (id == j) (is_among ids j) out in
             rest.apart j parts.1 ∙ put-other m id (retire_slot (m id)) j (λ is. not_same id j parts.0 (sym is));
-        others = λ j not_mine.
-            rest.others j not_mine ∙ put-other m id (retire_slot (m id)) j (λ is. not_mine (subst (Owns c.layout c.stream) (sym is) owns));
+        others = λ j not_mine. rest.others j not_mine ∙ put-other m id (retire_slot (m id)) j (λ is. not_mine (rw is owns));
       }
 ]
 

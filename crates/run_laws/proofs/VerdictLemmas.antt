@@ -238,8 +238,7 @@ module _ (run_params : RunParamsValue) (order : List Block) (passes : Event → 
       → list_any passes (joined (blocks_of s order)) ≡ says report
   observed_by s stream report judged =
       let way : (end : StreamEnd) × JudgesBlocks (stream_params run_params s) stream.bytes end (blocks_of s order) report
-      = some_end (stream_params run_params s) stream (blocks_of s order) report
-      (subst (λ (bs : List History). JudgesStream (stream_params run_params s) stream bs report) judged.1 judged.2) in
+      = some_end (stream_params run_params s) stream (blocks_of s order) report (rw judged.1 at judged.2) in
       stream_says (stream_params run_params s) passes adds says (shows s) stream.bytes way.0 (blocks_of s order) report way.1
 
   said_published : (s : ℕ) (streams : List Stream) (reports : List Report)

@@ -56,10 +56,7 @@ own-calls (e ∷ h) s =
 
 again-tail : (e : Event) (es : History) → TriesAgain (e ∷ es) → TriesAgain es
 again-tail (events.fetch s id events.vacant) es again = again.1
-again-tail (events.fetch s id (events.live c)) es again = again
-again-tail (events.fetch s id events.retired) es again = again
-again-tail (events.publish s id c r) es again = again
-again-tail (events.retire s id r) es again = again
+again-tail _ es again = again
 
 -- An event that is the first of a longer line
 

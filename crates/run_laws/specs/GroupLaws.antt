@@ -87,18 +87,6 @@ MatchIsReading = (observed : List InputObservation) (streams : List Stream) (s :
     → observation.entry ≡ Some whole → observation.has_failed ≡ false
     → IsReadingOf whole stream_ends.Ended stream
 
--- if a reader failed, its stream is a reading of the bytes that the reader had at the start,
--- without those left after the failure, with a failed read as its end
-abbrev pub FailedIsReading : Type 0
-FailedIsReading = (observed : List InputObservation) (streams : List Stream) (s : ℕ)
-    (observation : InputObservation)
-    (stream : Stream) (whole left : List ℕ)
-    → AllZip MatchesInput observed streams → IsOfStream observed s observation
-    → IsOfStream streams s stream
-    → observation.entry ≡ Some (whole ++ left) → observation.left ≡ Some left
-    → observation.has_failed ≡ true
-    → IsReadingOf whole stream_ends.Failed stream
-
 -- In two runs of one formula with the same parameters, a stream that cites only its own clauses and
 -- the formula's has the same report if both runs read the same bytes of it, with the same end,
 -- unless memory ran out. The other streams and the use of threads make no difference.

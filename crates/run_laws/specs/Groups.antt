@@ -1,15 +1,13 @@
 -- What a run is, and its groups of streams: what holds for a group's reports no matter what the
 -- streams outside the group do (this project's own).
-use Rattle.std.specs.Prelude.{◌≡◌, ◌+◌, ◌==◌, ◌++◌, ℕ, Bool, true, false, IsTrue, List, [], ◌∷◌, length, Some, MatchOption, if◌then◌else◌}
+use Rattle.std.specs.Prelude.{◌≡◌, ◌+◌, ◌==◌, ◌++◌, ℕ, Bool, true, IsTrue, List, [], ◌∷◌, length, Some, MatchOption, if◌then◌else◌}
 use Rattle.std.specs.List.{AllByRecursion, AllZip}
 use Rattle.lrup_model.specs.Formula.{Cnf}
 use Rattle.lrup_model.specs.Layout.{LayoutValue}
 use Rattle.lrup_model.specs.Event.{History, stream_of}
 use Rattle.lrup_model.specs.History.{IsLegal}
-use Rattle.stream_check.specs.declared.report.Ending.TheVariants as endings
 use Rattle.stream_check.specs.declared.report.Report.{Report}
 use Rattle.lrup_text.specs.declared.device.StreamEnd.{StreamEnd}
-use Rattle.lrup_text.specs.declared.device.StreamEnd.TheVariants as stream_ends
 use Rattle.stream_check.specs.Excuses.{Excuse, OutOfMemory, IsExcused}
 use Rattle.stream_check.specs.Closed.{IsOfStream, CiteWithin, IsClosed}
 use Rattle.stream_check.specs.Streams.{Stream, InputObservation, RunParamsValue, MatchesInput}

@@ -1,6 +1,6 @@
 -- Laws of the order of lines. Each is the contract of a function in a module of laws.
-use Rattle.std.specs.Prelude.{◌≡◌, ◌++◌, ℕ, Bool, true, IsTrue, List, length}
-use Rattle.std.specs.List.{AllByRecursion, AllZip}
+use Rattle.std.specs.Prelude.{◌≡◌, ℕ, Bool, true, IsTrue, List, length}
+use Rattle.std.specs.List.{AllByRecursion}
 use Rattle.lrup_model.specs.Formula.{Cnf}
 use Rattle.lrup_model.specs.Layout.{LayoutValue, Fits, IsStream}
 use Rattle.lrup_model.specs.Event as events
@@ -13,12 +13,12 @@ use Rattle.stream_check.specs.declared.report.Report.{Report}
 use Rattle.stream_check.specs.StreamParams.{StreamParams}
 use Rattle.stream_check.specs.StreamContext.{deleted_by}
 use Rattle.stream_check.specs.Judging.{joined, JudgesBlocks}
-use Rattle.stream_check.specs.Streams.{Stream, Block, events_in, InputObservation, RunParamsValue, MatchesInput, IsOrdered}
+use Rattle.stream_check.specs.Streams.{Stream, Block, events_in, InputObservation, RunParamsValue, IsOrdered}
 use Rattle.stream_check.specs.SequentialConsistency.{AreJudgedIn}
 use Rattle.stream_check.specs.Closed.{IsClosed}
 use Rattle.run_laws.specs.Groups.{IsRun}
 use Rattle.run_laws.specs.Lines.{IsLineBlock, IsOrder}
-use Rattle.run_laws.specs.Premises.{FoundStays, MeetsUnretired, Cites, SomeLineDeletes, KeepShared, ReadersKeepShared}
+use Rattle.run_laws.specs.Premises.{FoundStays, MeetsUnretired, KeepShared}
 use Rattle.run_laws.specs.Serializable.{ComeToVerdict, IsSerializable}
 
 -- The lines of a stream
@@ -104,21 +104,6 @@ SharedStays =
     → IsLegal f run_params.layout h → AreJudgedIn run_params set h 1 streams reports
     → IsClosed run_params.layout set streams → KeepShared run_params.layout set streams
     → FoundStays f run_params.layout set h
-
--- if the lines of some bytes cite or delete an identity, so do the lines of all bytes that begin
--- with those bytes
-abbrev pub BeginningsCite : Type 0
-BeginningsCite = (bytes more : List ℕ) (id : ℕ)
-    → (Cites bytes id → Cites (bytes ++ more) id)
-    × (SomeLineDeletes bytes id → SomeLineDeletes (bytes ++ more) id)
-
--- If no stream of a set deletes a clause that another stream of the set cites, judged by all bytes
--- that their readers have at the start, then no stream does so in the bytes that were needed.
-abbrev pub ReadersShare : Type 0
-ReadersShare =
-    (p : LayoutValue) (set : ℕ → Bool) (observed : List InputObservation) (streams : List Stream)
-    → AllZip MatchesInput observed streams → ReadersKeepShared p set observed
-    → KeepShared p set streams
 
 -- Runs
 

@@ -1,5 +1,5 @@
 -- What the streams of a set may share, so that their lines have an order (this project's own).
-use Rattle.std.specs.Prelude.{◌≡◌, ◌≢◌, ◌⊎◌, ℕ, Bool, IsTrue, List, [], ◌∷◌, Some}
+use Rattle.std.specs.Prelude.{◌≡◌, ◌≢◌, ◌⊎◌, ℕ, Bool, IsTrue, List, [], ◌∷◌}
 use Rattle.std.specs.List.{AllByRecursion, list_any}
 use Rattle.lrup_model.specs.Formula.{Cnf}
 use Rattle.lrup_model.specs.Layout.{LayoutValue, IsStream, Owns}
@@ -11,7 +11,7 @@ use Rattle.lrup_model.specs.declared.clause_map.Retired.TheVariants as retiring
 use Rattle.lrup_text.specs.Lines.{StreamLine, Cut}
 use Rattle.stream_check.specs.StreamContext.{is_among, deleted_by}
 use Rattle.stream_check.specs.Laws.{cited_by}
-use Rattle.stream_check.specs.Streams.{Stream, InputObservation}
+use Rattle.stream_check.specs.Streams.{Stream}
 use Rattle.stream_check.specs.Closed.{IsOfStream}
 
 -- Judged by the last state
@@ -77,13 +77,3 @@ KeepShared layout set streams =
     (s t id : ℕ) (citing deleting : Stream) → s ≢ t → IsTrue (set s) → IsTrue (set t)
     → IsOfStream streams s citing → IsOfStream streams t deleting → Owns layout t id
     → Cites citing.bytes id → ¬ SomeLineDeletes deleting.bytes id
-
--- In all bytes that the readers of the set's streams have at the start, no stream deletes an
--- identity of its own that another one cites. These bytes are known.
-abbrev pub ReadersKeepShared : LayoutValue → (ℕ → Bool) → List InputObservation → Type 0
-ReadersKeepShared layout set observed =
-    (s t id : ℕ) (citing deleting : InputObservation) → s ≢ t → IsTrue (set s) → IsTrue (set t)
-    → IsOfStream observed s citing → IsOfStream observed t deleting → Owns layout t id
-    → (bytes : List ℕ) × (others : List ℕ)
-    × (citing.entry ≡ Some bytes) × (deleting.entry ≡ Some others)
-    × (Cites bytes id → ¬ SomeLineDeletes others id)

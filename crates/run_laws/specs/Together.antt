@@ -3,16 +3,13 @@
 -- blamed (this project's own). Some good lines have no such order: a checker also accepts the
 -- deletion of another stream's clause that its owner has already deleted (the law `ValidInAnyRun`
 -- covers those).
-use Rattle.std.specs.Prelude.{◌≡◌, ◌⊎◌, ◌≤◌, ◌==◌, ◌&&◌, ◌++◌, ℕ, Bool, false, IsTrue, List, [], ◌∷◌, length, None, Some, if◌then◌else◌}
+use Rattle.std.specs.Prelude.{◌≡◌, ◌⊎◌, ◌≤◌, ◌==◌, ◌++◌, ℕ, Bool, IsTrue, List, [], ◌∷◌, length, Some, if◌then◌else◌}
 use Rattle.std.specs.List.{AllByRecursion, flat_map}
-use Rattle.lrup_model.specs.Distinct.{distinct}
 use Rattle.lrup_model.specs.Formula.{Cnf, IsCnf}
-use Rattle.lrup_model.specs.Layout.{LayoutValue, Fits, IsStream, owner}
-use Rattle.lrup_model.specs.declared.layout.Owner.TheVariants as owners
-use Rattle.lrup_text.specs.Lines.{StreamLine, Addition, Deletion, Import, IsWithinLimits, line_text}
+use Rattle.lrup_model.specs.Layout.{LayoutValue, Fits, IsStream}
+use Rattle.lrup_text.specs.Lines.{StreamLine, IsWithinLimits, line_text}
 use Rattle.stream_check.specs.declared.report.Report.{Report}
 use Rattle.stream_check.specs.Excuses.{CutOff, Lacking, IsExcused, IsExcusedAt}
-use Rattle.stream_check.specs.StreamContext.{is_among}
 use Rattle.stream_check.specs.Closed.{IsOfStream}
 use Rattle.stream_check.specs.Streams.{InputObservation, RunParamsValue, stream_params}
 use Rattle.run_laws.specs.Groups.{IsRun}

@@ -1,5 +1,5 @@
 -- Laws of valid proofs. Each is the contract of a function in a module of laws.
-use Rattle.std.specs.Prelude.{◌≡◌, ◌⊎◌, ◌↔◌, ◌≤◌, ◌++◌, ℕ, Bool, IsTrue, List, length, Some}
+use Rattle.std.specs.Prelude.{◌≡◌, ◌⊎◌, ◌↔◌, ◌≤◌, ◌++◌, ℕ, IsTrue, List, length, Some}
 use Rattle.std.specs.List.{Any, sum_by}
 use Rattle.lrup_model.specs.Formula.{Cnf, IsCnf}
 use Rattle.lrup_model.specs.Layout.{LayoutValue, IsLayout, Fits, IsStream}

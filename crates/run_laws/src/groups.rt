@@ -1,6 +1,6 @@
 //! Laws of groups. Each function does nothing: its contract is the law, which holds for every
 //! formula, layout, set and run.
-ghost use Rattle.run_laws.specs.GroupLaws.{BeginningsWithin, ReadersClosed, ClosedIsGroup, OthersEmpty, AloneHasOneReport, RunIsolated, MatchIsReading, FailedIsReading, SameReadingAgrees, SameBytesAgree};
+ghost use Rattle.run_laws.specs.GroupLaws.{BeginningsWithin, ReadersClosed, ClosedIsGroup, OthersEmpty, AloneHasOneReport, RunIsolated, MatchIsReading, SameReadingAgrees, SameBytesAgree};
 
 use lrup_text::laws::{a_beginning_is_cut_alike, every_stream_is_cut};
 use stream_check::laws::{
@@ -59,12 +59,6 @@ pub fn run_isolated()
 /// start.
 pub fn match_is_reading()
     ensures { MatchIsReading }
-{}
-
-/// If a reader failed, its stream is a reading of the bytes that the reader had at the start,
-/// without those that it still has after the failure.
-pub fn failed_is_reading()
-    ensures { FailedIsReading }
 {}
 
 /// In two runs, a stream that cites only its own clauses and the formula's has the same report if

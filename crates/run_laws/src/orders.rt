@@ -1,8 +1,8 @@
 //! Laws of the order of lines. Each function does nothing: its contract is the law, which holds for
 //! every formula, layout, set and history.
-ghost use Rattle.run_laws.specs.OrderLaws.{JudgedBlocks, DeletedRetired, LinesOrdered, ClosedOrdered, AllClosed, AllOrdered, OwnersAloneSuffices, SharedStays, BeginningsCite, ReadersShare, RunSerializable};
+ghost use Rattle.run_laws.specs.OrderLaws.{JudgedBlocks, DeletedRetired, LinesOrdered, ClosedOrdered, AllClosed, AllOrdered, OwnersAloneSuffices, SharedStays, RunSerializable};
 
-use lrup_text::laws::{a_beginning_is_cut_alike, bytes_begin_with_one_line, every_stream_is_cut};
+use lrup_text::laws::{bytes_begin_with_one_line, every_stream_is_cut};
 use stream_check::laws::{cited_fetched, early_events, reduced_stream, vacant_tries_again};
 
 /// Each block by which a stream is judged has the form of a line's events.
@@ -66,23 +66,6 @@ pub fn shared_stays()
 {
     cited_fetched();
     deleted_retired();
-}
-
-/// If the lines of some bytes cite or delete an identity, so do the lines of all bytes that begin
-/// with those bytes.
-pub fn beginnings_cite()
-    ensures { BeginningsCite }
-{
-    a_beginning_is_cut_alike();
-    every_stream_is_cut();
-}
-
-/// Suppose that, in all bytes that the readers have at the start, no stream deletes a clause that
-/// another stream cites. Then the same is true of the bytes that were needed.
-pub fn readers_share()
-    ensures { ReadersShare }
-{
-    beginnings_cite();
 }
 
 /// The lines of every run are serializable.

@@ -1,12 +1,11 @@
 -- An addition that is checked and published.
-use Rattle.std.proofs.Common.{◌≡◌, ◌≤◌, ◌<◌, ℕ, ℤ, nat_abs, Bool, true, false, cond, List, [], ◌∷◌, length, Ok, refl, sym, ap, subst, ◌∙◌}
-use Rattle.std.proofs.Common.{inr, arith}
+use Rattle.std.proofs.Common.{◌≡◌, ◌≤◌, ◌<◌, ℕ, ℤ, nat_abs, Bool, true, false, cond, List, [], ◌∷◌, length, Ok, refl, ap, ◌∙◌, inr, arith}
 use Rattle.std.specs.Prelude.{◌==◌}
 use Rattle.std.specs.List.{AllByRecursion, sum_by}
 use Rattle.lrup_model.specs.Literal.{IsLiteral}
-use Rattle.lrup_model.specs.Clause.{Clause, IsClause}
+use Rattle.lrup_model.specs.Clause.{Clause}
 use Rattle.lrup_model.specs.Formula.{Cnf}
-use Rattle.lrup_model.specs.Layout.{LayoutValue, Owns}
+use Rattle.lrup_model.specs.Layout.{Owns}
 use Rattle.lrup_model.specs.Event as events
 use Rattle.lrup_model.specs.Event.{Event, History, own, published, spent, stream_of}
 use Rattle.lrup_model.specs.State.{State, absent}
@@ -48,14 +47,12 @@ room_stays p q es step quiet = omega (arith, step.room, spent-fetches p.caller.s
 -- in a view of the stream, an identity that the stream owns is also the caller's own
 pub owns_at : (c : StreamParams) (p : CallerView) (id : ℕ) → IsViewOf c p → Owns c.layout c.stream id
     → Owns p.caller.layout p.caller.stream id
-owns_at c p id at owns =
-    subst (λ (l : LayoutValue). Owns l p.caller.stream id) (sym at.layout) (subst (λ (s : ℕ). Owns c.layout s id) (sym at.stream) owns)
+owns_at c p id at owns = rw (at.layout, at.stream) owns
 
 -- in a view of the stream, an identity that the caller owns is also the stream's own
 pub owned_by : (c : StreamParams) (p : CallerView) (id : ℕ) → IsViewOf c p → Owns p.caller.layout p.caller.stream id
     → Owns c.layout c.stream id
-owned_by c p id at owns =
-    subst (λ (l : LayoutValue). Owns l c.stream id) at.layout (subst (λ (s : ℕ). Owns p.caller.layout s id) at.stream owns)
+owned_by c p id at owns = rw (at.stream, at.layout) at owns
 
 -- after a step the view is still the stream's
 pub still_at : (c : StreamParams) (p q : CallerView) (es : History) → IsViewOf c p → CallerStep p q es → IsViewOf c q
@@ -83,21 +80,18 @@ pub shown_is : (c : StreamParams) (st : StreamContext) (is_dropped : ℕ → Boo
     (marks : Propagation)
     (es : History) → Admits c st id lits marks
     → Shows c is_dropped f marks.falses hints es (Ok tt) → Shows c is_dropped f (distinct lits) hints es (Ok tt)
-shown_is c st is_dropped f id lits hints marks es admits shown =
-    subst (λ (d : Clause). Shows c is_dropped f d hints es (Ok tt)) (ap (λ (m : Propagation). m.falses) admits.marks_are) shown
+shown_is c st is_dropped f id lits hints marks es admits shown = rw (ap (λ (m : Propagation). m.falses) admits.marks_are) at shown
 
 pub publishable : (c : StreamParams) (p q : CallerView) (st : StreamContext) (is_dropped : ℕ → Bool) (es : History) (id : ℕ) (lits : List ℤ)
     (hints : List ℕ)
     (marks : Propagation) → CallerStep p q es
     → Admits c st id lits marks → length lits ≤ max_line_literals → Shows c is_dropped p.caller.formula (distinct lits) hints es (Ok tt)
     → IsPublishable q.caller.formula (distinct lits)
-publishable c p q st is_dropped es id lits hints marks step admits few shown =
-    subst (λ (f : Cnf). IsPublishable f (distinct lits)) (sym (ap (λ (r : Caller). r.formula) step.caller))
-    (record {
-      clause = subst (λ (v : ℕ). IsClause v (distinct lits)) (sym shown.3) admits.clause;
-      length = omega (arith, length-distinct lits);
-      follows = propagation_sound p.caller.formula (distinct lits) shown.0 shown.1 shown.2;
-    })
+publishable c p q st is_dropped es id lits hints marks step admits few shown = rw (ap (λ (r : Caller). r.formula) step.caller) (record {
+  clause = rw shown.3 admits.clause;
+  length = omega (arith, length-distinct lits);
+  follows = propagation_sound p.caller.formula (distinct lits) shown.0 shown.1 shown.2;
+})
 
 pub still_vacant : (c : StreamParams) (p q : CallerView) (es : History) (last id : ℕ) → IsViewOf c p → CallerStep p q es
     → AllByRecursion IsFetch es

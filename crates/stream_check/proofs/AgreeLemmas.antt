@@ -71,14 +71,12 @@ after_looks : (c : StreamParams) (is_dropped : ℕ → Bool) (h : ℕ) (es a res
     → es ≡ a ++ rest → fs ≡ b ++ left → LooksUp c is_dropped h a x → LooksUp c is_dropped h b y → NeverFork (es ++ q) (fs ++ r)
     → LookedAlike a x b y (rest ++ q) (left ++ r)
 after_looks c is_dropped h es a rest fs b left q r x y one two first second never =
-    let split = subst (λ e. NeverFork e (b ++ (left ++ r))) (ap (λ e. e ++ q) one ∙ append_assoc a rest q)
-    (subst (NeverFork (es ++ q)) (ap (λ e. e ++ r) two ∙ append_assoc b left r) never) in
+    let split = rw (ap (λ e. e ++ r) two ∙ append_assoc b left r, ap (λ e. e ++ q) one ∙ append_assoc a rest q) at never in
     let same = looks_agree c is_dropped h a b (rest ++ q) (left ++ r) x y first second split in
     record {
       asked = same.0;
       answer = same.1;
-      following = never_fork_after a (rest ++ q) (left ++ r)
-          (subst (λ e. NeverFork (a ++ (rest ++ q)) (e ++ (left ++ r))) (sym same.0) split);
+      following = never_fork_after a (rest ++ q) (left ++ r) (rw (← same.0) at split);
     }
 
 -- Hints
@@ -105,8 +103,7 @@ never_both c is_dropped n [] (d ∷ ds) a b q r fault found refutes fails never 
 never_both c is_dropped n (h ∷ hints) [] a b q r fault found refutes fails never = found
 never_both c is_dropped n (h ∷ hints) (d ∷ ds) a b q r fault found refutes fails never =
     let same = after_looks c is_dropped h a found.0 found.1 b fails.0 fails.1 q r (Ok d) fails.3 found.2 fails.2 found.3 fails.4 never in
-    let by = subst (λ (x : Result Clause Fault). FailsBy x n h hints fails.1 fault (λ m. FailsHints c is_dropped m hints fails.1 fault))
-    (sym same.answer) fails.5 in
+    let by = rw (← same.answer) at fails.5 in
     elim by [
       | inl unit ↦ never_both c is_dropped (n ++ neg_ℤ unit.0 ∷ []) hints ds found.1 fails.1 q r fault found.4
           (refutes_on n d ds unit.0 refutes
@@ -164,8 +161,7 @@ addition_agrees : (c : StreamParams) (st : StreamContext) (id : ℕ) (lits : Lis
     → JudgesAddition c st id lits hints es v → JudgesAddition c st id lits hints fs w → NeverFork (es ++ q) (fs ++ r) → Agree es v fs w
 addition_agrees c st id lits hints es fs q r Good Good a b never =
     let last = published_by c id lits ∷ [] in
-    let following = subst (λ e. NeverFork e (b.0 ++ (last ++ r))) (ap (λ e. e ++ q) a.2 ∙ append_assoc a.0 last q)
-    (subst (NeverFork (es ++ q)) (ap (λ e. e ++ r) b.2 ∙ append_assoc b.0 last r) never) in
+    let following = rw (ap (λ e. e ++ r) b.2 ∙ append_assoc b.0 last r, ap (λ e. e ++ q) a.2 ∙ append_assoc a.0 last q) at never in
     let same = found_agree c st.is_dropped hints a.1.clauses b.1.clauses a.0 b.0 (last ++ q) (last ++ r) a.1.named b.1.named following in
     record { events = a.2 ∙ ap (λ e. e ++ last) same ∙ sym b.2; verdict = refl }
 addition_agrees c st id lits hints es fs q r Good (Bad deleted fault) a b never =
@@ -196,19 +192,16 @@ retires_agree c earlier id es fs q r v w A B next a b never =
     elim a.decided [
       | inl one ↦ elim b.decided [
         | inl two ↦
-            let here =
-            subst (λ e. NeverFork (e ++ q) ((done ∷ b.rest) ++ r)) one.0 (subst (λ e. NeverFork (es ++ q) (e ++ r)) two.0 never) in
+            let here = rw (two.0, one.0) at never in
             let later = next a.rest b.rest (here.1 refl) one.1 two.1 in
             record { events = one.0 ∙ ap (λ e. done ∷ e) later.events ∙ sym two.0; verdict = later.verdict }
         | inr two ↦
-            let here =
-            subst (λ e. NeverFork (e ++ q) ((refused ∷ b.rest) ++ r)) one.0 (subst (λ e. NeverFork (es ++ q) (e ++ r)) two.0 never) in
+            let here = rw (two.0, one.0) at never in
             absurd (let e = here.0 (refl, refl) in cc)
       ]
       | inr one ↦ elim b.decided [
         | inl two ↦
-            let here =
-            subst (λ e. NeverFork (e ++ q) ((done ∷ b.rest) ++ r)) one.0 (subst (λ e. NeverFork (es ++ q) (e ++ r)) two.0 never) in
+            let here = rw (two.0, one.0) at never in
             absurd (let e = here.0 (refl, refl) in cc)
         | inr two ↦ record { events = one.0 ∙ ap (λ e. refused ∷ e) (one.1.0 ∙ sym two.1.0) ∙ sym two.0; verdict = one.1.1 ∙ sym two.1.1 }
       ]
@@ -221,14 +214,12 @@ at_agree : (ownership : Ownership) (c : StreamParams) (is_dropped : ℕ → Bool
     → DeletesAt ownership c is_dropped earlier id es v A → DeletesAt ownership c is_dropped earlier id fs w B
     → NeverFork (es ++ q) (fs ++ r)
     → Agree es v fs w
-at_agree ownerships.Formula c is_dropped earlier id es fs q r v w A B next a b never =
-    drops_agree is_dropped earlier id es fs v w A B (next es fs never) a b
 at_agree ownerships.Own c is_dropped earlier id es fs q r v w A B next a b never = retires_agree c earlier id es fs q r v w A B next a b
     never
-at_agree ownerships.Foreign c is_dropped earlier id es fs q r v w A B next a b never =
-    drops_agree is_dropped earlier id es fs v w A B (next es fs never) a b
 at_agree ownerships.Outside c is_dropped earlier id es fs q r v w A B next a b never =
     fails_agree (length earlier) (faults.NotLive id) es fs v w a b
+at_agree _ c is_dropped earlier id es fs q r v w A B next a b never =
+    drops_agree is_dropped earlier id es fs v w A B (next es fs never) a b
 
 identities_agree : (c : StreamParams) (is_dropped : ℕ → Bool) (earlier ids : List ℕ) (es fs q r : History) (v w : LineVerdict)
     → JudgesDeletion c is_dropped earlier ids es v → JudgesDeletion c is_dropped earlier ids fs w → NeverFork (es ++ q) (fs ++ r)

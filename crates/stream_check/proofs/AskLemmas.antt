@@ -1,6 +1,6 @@
 -- A hint is fetched, and fetched again while it is vacant.
 use Rattle.std.proofs.Common.{◌≡◌, ◌∙◌, ◌+◌, ◌-◌, ◌%◌, ◌<◌, ◌≤◌, ◌==◌, ℕ, Bool, [], ◌∷◌, ◌++◌, nat_eq, nat_le, inl, inr, refl, sym, ap}
-use Rattle.std.proofs.Common.{subst, arith}
+use Rattle.std.proofs.Common.{arith}
 use Rattle.std.specs.Prelude.{replicate, if◌then◌else◌}
 use Rattle.std.proofs.lemmas.Bool.{cond-true, cond-false, cases_Bool}
 use Rattle.std.proofs.lemmas.Bool.Decides.{eqb_tells, leb_tells}
@@ -95,8 +95,7 @@ pub asks_again : (c : StreamParams) (h s most : ℕ) (es : History) (r : Reply) 
     → most ≡ tries_on (ownership_of c h) c.tries → FetchesUpTo most s h es r → FetchesHint c h es r
 asks_again c h s most es r is stream tries fetches =
     asks_at (ownership_of c h) c h es r (inside_side c.stream (owner c.layout h) (inside_owner c.layout h is))
-    (subst (λ (t : ℕ). FetchesUpTo (tries_on (ownership_of c h) c.tries) t h es r) stream
-    (subst (λ (n : ℕ). FetchesUpTo n s h es r) tries fetches))
+    (rw (tries, stream) at fetches)
 
 -- a single fetch is enough for a hint if its reply isn't vacant
 pub asks_once : (c : StreamParams) (h s : ℕ) (r : Reply) → IsIdentity c.layout h → s ≡ c.stream → (r ≡ vacant → ⊥)
@@ -120,10 +119,7 @@ outside_owner p id never = elim (eqb_tells id 0) [
 
 -- for a number that isn't an identity there is no event
 pub asks_nothing : (c : StreamParams) (h : ℕ) → (IsIdentity c.layout h → ⊥) → FetchesHint c h [] vacant
-asks_nothing c h never =
-    subst (λ (ownership : Ownership). FetchesHintAt ownership c h [] vacant)
-    (sym (ap (ownership_for c.stream) (outside_owner c.layout h never)))
-    (refl, refl)
+asks_nothing c h never = rw (ap (ownership_for c.stream) (outside_owner c.layout h never)) (refl, refl)
 
 -- The reply to a fetch
 

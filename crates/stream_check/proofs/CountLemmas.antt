@@ -45,37 +45,29 @@ SameOwn p s m n = (id : ℕ) → Owns p s id → m id ≡ n id
 own_answers : (f : Cnf) (p : LayoutValue) (s : ℕ) (m n : State) (e : Event) (es : History) → stream_of e ≡ s → SameOwn p s m n
     → LegalFrom f p m (e ∷ es) → OwnAnswers n e
 unfolding OwnAnswers SameOwn
-own_answers f p s m n (events.fetch t id r) es mine same legal = tt
-own_answers f p s m n (events.publish t id c publishing.Done) es mine same legal =
-    sym (same id (subst (λ x. Owns p x id) mine legal.1.0)) ∙ legal.0
-own_answers f p s m n (events.publish t id c publishing.Taken) es mine same legal = tt
-own_answers f p s m n (events.retire t id retiring.Done) es mine same legal =
-    subst IsLive (same id (subst (λ x. Owns p x id) mine legal.1)) legal.0
-own_answers f p s m n (events.retire t id retiring.NotLive) es mine same legal = tt
+own_answers f p s m n (events.publish t id c publishing.Done) es mine same legal = sym (same id (rw mine at legal.1.0)) ∙ legal.0
+own_answers f p s m n (events.retire t id retiring.Done) es mine same legal = rw (same id (rw mine at legal.1)) at legal.0
+own_answers f p s m n _ es mine same legal = tt
 
 own_after : (f : Cnf) (p : LayoutValue) (s : ℕ) (m n : State) (e : Event) (es : History) → stream_of e ≡ s → SameOwn p s m n
     → LegalFrom f p m (e ∷ es) → SameOwn p s (after m e) (after n e)
 unfolding SameOwn
-own_after f p s m n (events.fetch t id r) es mine same legal = same
 own_after f p s m n (events.publish t id c publishing.Done) es mine same legal =
     λ j owns. ap (λ x. if j == id then live c else x) (same j owns)
-own_after f p s m n (events.publish t id c publishing.Taken) es mine same legal = same
 own_after f p s m n (events.retire t id retiring.Done) es mine same legal = λ j owns.
     ap (λ x. if j == id then retire_slot (m id) else x) (same j owns)
     ∙ ap (λ x. if j == id then retire_slot x else n j) (same id (subst (λ x. Owns p x id) mine legal.1))
-own_after f p s m n (events.retire t id retiring.NotLive) es mine same legal = same
+own_after f p s m n _ es mine same legal = same
 
 -- an event of another stream leaves the stream's own identities as they are
 other_after : (f : Cnf) (p : LayoutValue) (s : ℕ) (m n : State) (e : Event) (es : History) → stream_of e ≢ s → SameOwn p s m n
     → LegalFrom f p m (e ∷ es) → SameOwn p s (after m e) n
 unfolding SameOwn
-other_after f p s m n (events.fetch t id r) es other same legal = same
 other_after f p s m n (events.publish t id c publishing.Done) es other same legal = λ j owns.
     put_other m id j (live c) (λ e. other (sym (one_owner p s t id (subst (λ x. Owns p s x) e owns) legal.1.0))) ∙ same j owns
-other_after f p s m n (events.publish t id c publishing.Taken) es other same legal = same
 other_after f p s m n (events.retire t id retiring.Done) es other same legal = λ j owns.
     put_other m id j (retire_slot (m id)) (λ e. other (sym (one_owner p s t id (subst (λ x. Owns p s x) e owns) legal.1))) ∙ same j owns
-other_after f p s m n (events.retire t id retiring.NotLive) es other same legal = same
+other_after f p s m n _ es other same legal = same
 
 pub own_runs : (f : Cnf) (p : LayoutValue) (s : ℕ) (m n : State) (h : History) → LegalFrom f p m h → SameOwn p s m n → OwnRun n (own h s)
 unfolding OwnRun
@@ -92,19 +84,15 @@ own_runs f p s m n (e ∷ h) legal same = elim (eqb_tells (stream_of e) s) [
 -- what is retired stays retired
 pub stays_retired : (n : State) (e : Event) (id : ℕ) → OwnAnswers n e → IsRetired (n id) → IsRetired (after n e id)
 unfolding OwnAnswers
-stays_retired n (events.fetch s j r) id answers is = is
-stays_retired n (events.publish s j c publishing.Done) id answers is =
-    subst IsRetired (sym (put_other n j id (live c) (λ e. subst IsRetired (ap n e ∙ answers) is))) is
-stays_retired n (events.publish s j c publishing.Taken) id answers is = is
+stays_retired n (events.publish s j c publishing.Done) id answers is = rw (put_other n j id (live c) (λ e. rw (ap n e ∙ answers) at is)) is
 stays_retired n (events.retire s j retiring.Done) id answers is =
-    subst IsRetired
-    (sym (put_other n j id (retire_slot (n j)) (λ e. live_not_retired (n id) (subst (λ x. IsLive (n x)) (sym e) answers) is))) is
+    rw (put_other n j id (retire_slot (n j)) (λ e. live_not_retired (n id) (rw (← e) at answers) is)) is
   where
     live_not_retired : (slot : Slot) → IsLive slot → IsRetired slot → ⊥
     live_not_retired absent a b = a
     live_not_retired (live c) a b = b
     live_not_retired (retired c) a b = a
-stays_retired n (events.retire s j retiring.NotLive) id answers is = is
+stays_retired n _ id answers is = is
 
 pub run_retired : (n : State) (es rest : History) (id : ℕ) → OwnRun n (es ++ rest) → IsRetired (n id) → IsRetired (run n es id)
 unfolding OwnRun

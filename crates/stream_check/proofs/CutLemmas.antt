@@ -57,8 +57,7 @@ good_fetch c p before (line ∷ lines) (block ∷ blocks) all good =
 
 one_fetches : (p : ℕ → Bool) (block : History) (back : List History) → back ≡ block ∷ [] → AllByRecursion (FetchesOnly p) block
     → AllByRecursion (FetchesOnly p) (joined back)
-one_fetches p block back e all =
-    subst (λ b. AllByRecursion (FetchesOnly p) (joined b)) (sym e) (subst (AllByRecursion (FetchesOnly p)) (sym (append-nil block)) all)
+one_fetches p block back e all = rw (e, append-nil block) all
 
 none_fetch : (p : ℕ → Bool) (back : List History) → back ≡ [] → AllByRecursion (FetchesOnly p) (joined back)
 none_fetch p back e = subst (λ b. AllByRecursion (FetchesOnly p) (joined b)) (sym e) tt

@@ -57,14 +57,12 @@ dropped_own c first earlier old new id mine before same j =
 dropped_at : (ownership : Ownership) (c : StreamParams) (first earlier old new : List ℕ) (id : ℕ) (es : History)
     → ownership_of c id ≡ ownership
     → AreDropped c first earlier old → DeletesByOwnership ownership c id old new es (Ok tt) → AreDropped c first (earlier ++ id ∷ []) new
-dropped_at ownerships.Formula c first earlier old new id es is before deletes =
-    dropped_shared c first earlier old new id (ap is_shared is) before deletes.1.1
 dropped_at ownerships.Own c first earlier old new id es is before deletes =
     dropped_own c first earlier old new id (ap is_shared is) before deletes.1
-dropped_at ownerships.Foreign c first earlier old new id es is before deletes =
-    dropped_shared c first earlier old new id (ap is_shared is) before deletes.1.1
 dropped_at ownerships.Outside c first earlier old new id es is before deletes =
     absurd (let e : Ok tt ≡ Err (stops.Bad (faults.NotLive id)) = deletes.1 in cc)
+dropped_at _ c first earlier old new id es is before deletes =
+    dropped_shared c first earlier old new id (ap is_shared is) before deletes.1.1
 
 pub dropped_more : (c : StreamParams) (first earlier old new : List ℕ) (id : ℕ) (es : History) → AreDropped c first earlier old
     → DeletesOne c id old new es (Ok tt) → AreDropped c first (earlier ++ id ∷ []) new
@@ -83,53 +81,42 @@ done_at : (ownership : Ownership) (c : StreamParams) (first earlier old new : Li
     → Type 0) → ownership_of c id ≡ ownership → AreDropped c first earlier old
     → DeletesByOwnership ownership c id old new es (Ok tt) → Next rest
     → DeletesAt ownership c (is_among first) earlier id (es ++ rest) v Next
-done_at ownerships.Formula c first earlier old new id es rest v Next is before deletes next =
-    inr (
-      dropped_shared_is c first earlier old id false (ap is_shared is) before deletes.1.0,
-      subst Next (sym (ap (λ (x : History). x ++ rest) deletes.0)) next,
-    )
 done_at ownerships.Own c first earlier old new id es rest v Next is before deletes next =
     record { rest = rest; decided = inl (ap (λ (x : History). x ++ rest) deletes.0, next) }
-done_at ownerships.Foreign c first earlier old new id es rest v Next is before deletes next =
+done_at ownerships.Outside c first earlier old new id es rest v Next is before deletes next =
+    absurd (let e : Ok tt ≡ Err (stops.Bad (faults.NotLive id)) = deletes.1 in cc)
+done_at _ c first earlier old new id es rest v Next is before deletes next =
     inr (
       dropped_shared_is c first earlier old id false (ap is_shared is) before deletes.1.0,
       subst Next (sym (ap (λ (x : History). x ++ rest) deletes.0)) next,
     )
-done_at ownerships.Outside c first earlier old new id es rest v Next is before deletes next =
-    absurd (let e : Ok tt ≡ Err (stops.Bad (faults.NotLive id)) = deletes.1 in cc)
 
 bad_at : (ownership : Ownership) (c : StreamParams) (first earlier old new : List ℕ) (id : ℕ) (es : History) (fault : Fault)
     (Next : History → Type 0)
     → ownership_of c id ≡ ownership → AreDropped c first earlier old
     → DeletesByOwnership ownership c id old new es (Err (stops.Bad fault))
     → DeletesAt ownership c (is_among first) earlier id es (Bad (length earlier) fault) Next
-bad_at ownerships.Formula c first earlier old new id es fault Next is before deletes = inl (
-  dropped_shared_is c first earlier old id true (ap is_shared is) before deletes.1.0,
-  (deletes.0, ap (λ f. Bad (length earlier) f) deletes.1.1),
-)
 bad_at ownerships.Own c first earlier old new id es fault Next is before deletes = record {
   rest = [];
   decided = inr (deletes.0, (refl, ap (λ f. Bad (length earlier) f) deletes.1));
 }
-bad_at ownerships.Foreign c first earlier old new id es fault Next is before deletes = inl (
+bad_at ownerships.Outside c first earlier old new id es fault Next is before deletes =
+    (deletes.0, ap (λ f. Bad (length earlier) f) (let e : Err (stops.Bad fault) ≡ Err (stops.Bad (faults.NotLive id)) = deletes.1 in cc))
+bad_at _ c first earlier old new id es fault Next is before deletes = inl (
   dropped_shared_is c first earlier old id true (ap is_shared is) before deletes.1.0,
   (deletes.0, ap (λ f. Bad (length earlier) f) deletes.1.1),
 )
-bad_at ownerships.Outside c first earlier old new id es fault Next is before deletes =
-    (deletes.0, ap (λ f. Bad (length earlier) f) (let e : Err (stops.Bad fault) ≡ Err (stops.Bad (faults.NotLive id)) = deletes.1 in cc))
 
 no_memory_at : (ownership : Ownership) (c : StreamParams) (first earlier old new : List ℕ) (id : ℕ) (es : History)
     → ownership_of c id ≡ ownership
     → AreDropped c first earlier old
     → DeletesByOwnership ownership c id old new es (Err stops.Memory)
     → (es ≡ []) × (is_shared (ownership_of c id) ≡ true) × ((is_among first id || is_among earlier id) ≡ false)
-no_memory_at ownerships.Formula c first earlier old new id es is before deletes =
-    (deletes.0, ap is_shared is, dropped_shared_is c first earlier old id false (ap is_shared is) before deletes.1.0)
 no_memory_at ownerships.Own c first earlier old new id es is before deletes = absurd deletes
-no_memory_at ownerships.Foreign c first earlier old new id es is before deletes =
-    (deletes.0, ap is_shared is, dropped_shared_is c first earlier old id false (ap is_shared is) before deletes.1.0)
 no_memory_at ownerships.Outside c first earlier old new id es is before deletes =
     absurd (let e : Err stops.Memory ≡ Err (stops.Bad (faults.NotLive id)) = deletes.1 in cc)
+no_memory_at _ c first earlier old new id es is before deletes =
+    (deletes.0, ap is_shared is, dropped_shared_is c first earlier old id false (ap is_shared is) before deletes.1.0)
 
 -- the identity at which the deletion stopped isn't dropped
 kept_at : (ownership : Ownership) (c : StreamParams) (old new : List ℕ) (id : ℕ) (es : History) (stop : LineStop)
@@ -145,8 +132,7 @@ kept_at ownerships.Outside c old new id es stop deletes = deletes.2
 dropped_until : (c : StreamParams) (first earlier old new : List ℕ) (id : ℕ) (es : History) (stop : LineStop)
     → AreDropped c first earlier old
     → DeletesOne c id old new es (Err stop) → AreDropped c first earlier new
-dropped_until c first earlier old new id es stop before deletes =
-    subst (AreDropped c first earlier) (sym (kept_at (ownership_of c id) c old new id es stop deletes)) before
+dropped_until c first earlier old new id es stop before deletes = rw (kept_at (ownership_of c id) c old new id es stop deletes) before
 
 -- One after the other
 
@@ -161,9 +147,7 @@ goes_on c first earlier old new id es fs before dropped deletes more rest v judg
     let here : JudgesDeletion c (is_among first) earlier (id ∷ more) (fs ++ rest) v =
     done_at (ownership_of c id) c first earlier old new id fs rest v
     (λ x. JudgesDeletion c (is_among first) (earlier ++ id ∷ []) more x v) refl dropped deletes judged in
-    subst (λ (x : History). JudgesDeletion c (is_among first) [] ((earlier ++ id ∷ []) ++ more) x v) (sym (append_assoc es fs rest))
-    (subst (λ (ids : List ℕ). JudgesDeletion c (is_among first) [] ids (es ++ (fs ++ rest)) v) (sym (append_assoc earlier (id ∷ []) more))
-    (before (id ∷ more) (fs ++ rest) v here))
+    rw (append_assoc es fs rest, append_assoc earlier (id ∷ []) more) (before (id ∷ more) (fs ++ rest) v here)
 
 -- a list consists of the elements before an index, the element there, and the elements after it
 pub among_ids : (ids : List ℕ) (i : ℕ) → i < length ids → ids ≡ take i ids ++ get_or ids i 0 ∷ drop (i + 1) ids
@@ -172,9 +156,7 @@ among_ids ids i lt = sym (take-append-drop i ids) ∙ ap (λ (js : List ℕ). ta
 -- the identities that were deleted so far are judged good
 good_front : (c : StreamParams) (first earlier : List ℕ) (es : History) → GoesOn c first earlier es
     → JudgesDeletion c (is_among first) [] earlier es Good
-good_front c first earlier es before =
-    subst (λ (ids : List ℕ). JudgesDeletion c (is_among first) [] ids es Good) (append-nil earlier)
-    (subst (λ (x : History). JudgesDeletion c (is_among first) [] (earlier ++ []) x Good) (append-nil es) (before [] [] Good (refl, refl)))
+good_front c first earlier es before = rw (append-nil es, append-nil earlier) at (before [] [] Good (refl, refl))
 
 -- the deletion stops at an identity, because the identity is bad or memory runs out
 pub stopped_deletion : (c : StreamParams) (first earlier old new : List ℕ) (id : ℕ) (later ids : List ℕ) (es fs : History) (stop : LineStop)
@@ -200,8 +182,7 @@ stopped_deletion c first earlier old new id later ids es fs stops.Memory is befo
         id = id;
         later = later;
         identities = is;
-        before = subst (λ (x : History). JudgesDeletion c (is_among first) [] earlier x Good)
-            (sym (ap (λ (x : History). es ++ x) at.0 ∙ append-nil es)) (good_front c first earlier es before);
+        before = rw (ap (λ (x : History). es ++ x) at.0 ∙ append-nil es) (good_front c first earlier es before);
         shared = at.1;
         new = at.2;
       },
@@ -211,5 +192,4 @@ stopped_deletion c first earlier old new id later ids es fs stops.Memory is befo
 -- if all identities are deleted, the deletion is good
 pub good_deletion : (c : StreamParams) (first earlier ids : List ℕ) (es : History) → earlier ≡ ids → GoesOn c first earlier es
     → JudgesDeletion c (is_among first) [] ids es Good
-good_deletion c first earlier ids es is before =
-    subst (λ (js : List ℕ). JudgesDeletion c (is_among first) [] js es Good) is (good_front c first earlier es before)
+good_deletion c first earlier ids es is before = rw is at (good_front c first earlier es before)

@@ -9,7 +9,7 @@ use Rattle.std.proofs.lemmas.List.Sums.{sum_by-append}
 use Rattle.lrup_model.specs.Layout.{LayoutValue, last_identity, IsIdentity, owner}
 use Rattle.lrup_model.specs.declared.layout.Owner.TheVariants as owners
 use Rattle.lrup_model.specs.Event as events
-use Rattle.lrup_model.specs.Event.{Event, History, Reply, stream_of}
+use Rattle.lrup_model.specs.Event.{Event, History}
 use Rattle.lrup_model.specs.State.{State, Slot, absent, live, retired, IsLive, IsRetired, retire_slot, after, run}
 use Rattle.lrup_model.specs.lemmas.RunningLemmas.{run-append}
 use Rattle.lrup_model.specs.declared.clause_map.Retired.TheVariants as retiring
@@ -154,8 +154,7 @@ took_none c n is_dropped earlier many es v none good are =
 took_failed : (c : StreamParams) (n : State) (is_dropped : ℕ → Bool) (earlier ids : List ℕ) (many : ℕ) (es : History) (v : LineVerdict)
     (fault : Fault)
     → v ≡ Bad (length earlier) fault → AreTaken c n is_dropped earlier many → Took c n is_dropped earlier ids many es v
-took_failed c n is_dropped earlier ids many es v fault bad are =
-    subst (λ w. Took c n is_dropped earlier ids many es w) (sym bad) (n, earlier, many, are, refl)
+took_failed c n is_dropped earlier ids many es v fault bad are = rw bad (n, earlier, many, are, refl)
 
 -- `Took` after the first identity implies `Took` from that identity on
 took_back : (c : StreamParams) (n : State) (is_dropped : ℕ → Bool) (earlier : List ℕ) (id : ℕ) (ids : List ℕ) (many : ℕ) (es : History)
@@ -171,8 +170,7 @@ took_back c n is_dropped earlier id ids many es (Bad deleted fault) took =
 took_later : (c : StreamParams) (n : State) (is_dropped : ℕ → Bool) (earlier ids : List ℕ) (many : ℕ) (e : Event) (es rest : History)
     (v : LineVerdict)
     → es ≡ e ∷ rest → Took c (after n e) is_dropped earlier ids many rest v → Took c n is_dropped earlier ids many es v
-took_later c n is_dropped earlier ids many e es rest Good is took =
-    subst (λ x. AreTaken c (run n x) is_dropped (earlier ++ ids) (many + length ids)) (sym is) took
+took_later c n is_dropped earlier ids many e es rest Good is took = rw is took
 took_later c n is_dropped earlier ids many e es rest (Bad deleted fault) is took = took
 
 live_not_retired : (slot : Slot) → IsLive slot → IsRetired slot → ⊥
@@ -189,9 +187,8 @@ unfolding OwnAnswers
 took_own c n is_dropped earlier id many ownership is_live are =
     let e = events.retire c.stream id retiring.Done in
     take_more c n (after n e) is_dropped earlier id many (λ y is. stays_retired n e y is_live is)
-    (λ t. live_not_retired (n id) is_live (subst (λ x. TakenAt x n is_dropped earlier id) ownership t))
-    (subst (λ x. TakenAt x (after n e) is_dropped (earlier ++ id ∷ []) id) (sym ownership)
-    (subst IsRetired (sym (put_same n id id (retire_slot (n id)) refl)) (retired_now (n id) is_live)))
+    (λ t. live_not_retired (n id) is_live (rw ownership at t))
+    (rw (ownership, put_same n id id (retire_slot (n id)) refl) (retired_now (n id) is_live))
     are
 
 took_formula : (c : StreamParams) (n : State) (is_dropped : ℕ → Bool) (earlier : List ℕ) (id many : ℕ)
@@ -199,18 +196,16 @@ took_formula : (c : StreamParams) (n : State) (is_dropped : ℕ → Bool) (earli
     → (is_dropped id || is_among earlier id) ≡ false → AreTaken c n is_dropped earlier many
     → AreTaken c n is_dropped (earlier ++ id ∷ []) (many + 1)
 took_formula c n is_dropped earlier id many ownership new are = take_more c n n is_dropped earlier id many (λ y is. is)
-    (λ t. let d : (is_dropped id || is_among earlier id) ≡ true = subst (λ x. TakenAt x n is_dropped earlier id) ownership t in
-    let f : true ≡ false = sym d ∙ new in cc)
-    (subst (λ x. TakenAt x n is_dropped (earlier ++ id ∷ []) id) (sym ownership) (dropped_now is_dropped earlier id)) are
+    (λ t. let d : (is_dropped id || is_among earlier id) ≡ true = rw ownership at t in
+    let f : true ≡ false = sym d ∙ new in cc) (rw ownership (dropped_now is_dropped earlier id)) are
 
 took_foreign : (c : StreamParams) (n : State) (is_dropped : ℕ → Bool) (earlier : List ℕ) (id many : ℕ)
     → ownership_of c id ≡ ownerships.Foreign
     → (is_dropped id || is_among earlier id) ≡ false → AreTaken c n is_dropped earlier many
     → AreTaken c n is_dropped (earlier ++ id ∷ []) (many + 1)
 took_foreign c n is_dropped earlier id many ownership new are = take_more c n n is_dropped earlier id many (λ y is. is)
-    (λ t. let d : (is_dropped id || is_among earlier id) ≡ true = subst (λ x. TakenAt x n is_dropped earlier id) ownership t in
-    let f : true ≡ false = sym d ∙ new in cc)
-    (subst (λ x. TakenAt x n is_dropped (earlier ++ id ∷ []) id) (sym ownership) (dropped_now is_dropped earlier id)) are
+    (λ t. let d : (is_dropped id || is_among earlier id) ≡ true = rw ownership at t in
+    let f : true ≡ false = sym d ∙ new in cc) (rw ownership (dropped_now is_dropped earlier id)) are
 
 took_at : (ownership : Ownership) (c : StreamParams) (n : State) (is_dropped : ℕ
     → Bool) (earlier : List ℕ) (id : ℕ) (ids : List ℕ) (many : ℕ)

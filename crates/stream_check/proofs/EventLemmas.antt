@@ -3,7 +3,7 @@ use Rattle.std.proofs.Common.{◌≡◌, ℕ, zero, suc, Bool, IsTrue, [], ◌�
 use Rattle.std.specs.List.{AllByRecursion}
 use Rattle.lrup_model.specs.Clause.{Clause}
 use Rattle.lrup_model.specs.Event as events
-use Rattle.lrup_model.specs.Event.{Event, History, Reply, stream_of}
+use Rattle.lrup_model.specs.Event.{Event, History, Reply}
 use Rattle.lrup_model.specs.declared.clause_map.Published.{Published}
 use Rattle.lrup_model.specs.declared.clause_map.Retired.TheVariants as retiring
 use Rattle.lrup_text.specs.Lines.{StreamLine, Addition, Deletion, Import}
@@ -77,14 +77,11 @@ tries_vacants s id (suc (suc k)) r rest ends tries = (refl, tries_vacants s id (
 
 tries_asked : (ownership : Ownership) (c : StreamParams) (h : ℕ) (asked rest : History) (r : Reply) → FetchesHintAt ownership c h asked r
     → (r ≡ events.vacant → rest ≡ []) → TriesAgain rest → TriesAgain (asked ++ rest)
-tries_asked ownerships.Formula c h asked rest r asks ends tries =
-    subst (λ a. TriesAgain (a ++ rest)) (sym asks) (tries_last c.stream h r rest ends tries)
-tries_asked ownerships.Own c h asked rest r asks ends tries =
-    subst (λ a. TriesAgain (a ++ rest)) (sym asks) (tries_last c.stream h r rest ends tries)
+tries_asked ownerships.Formula c h asked rest r asks ends tries = rw asks (tries_last c.stream h r rest ends tries)
+tries_asked ownerships.Own c h asked rest r asks ends tries = rw asks (tries_last c.stream h r rest ends tries)
 tries_asked ownerships.Foreign c h asked rest r asks ends tries =
-    subst (λ a. TriesAgain (a ++ rest)) (sym asks.3)
-    (subst TriesAgain (sym (append_assoc (replicate asks.0 (events.fetch c.stream h events.vacant)) (events.fetch c.stream h r ∷ []) rest))
-    (tries_vacants c.stream h asks.0 r rest ends tries))
+    rw (asks.3, append_assoc (replicate asks.0 (events.fetch c.stream h events.vacant)) (events.fetch c.stream h r ∷ []) rest)
+    (tries_vacants c.stream h asks.0 r rest ends tries)
 tries_asked ownerships.Outside c h asked rest r asks ends tries = subst (λ a. TriesAgain (a ++ rest)) (sym asks.0) tries
 
 pub vacant_tries_again : VacantTriesAgain

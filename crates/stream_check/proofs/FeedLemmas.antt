@@ -6,7 +6,6 @@ use Rattle.std.specs.Prelude.{◌&&◌, is_some, map}
 use Rattle.std.specs.List.{flat_map}
 use Rattle.std.proofs.lemmas.List.{take_all}
 use Rattle.lrup_model.specs.Event.{History}
-use Rattle.lrup_model.specs.CallerView.{CallerView}
 use Rattle.lrup_text.specs.Writing.{space}
 use Rattle.lrup_text.specs.internal.ByteNames.{letter_d, letter_i}
 use Rattle.lrup_text.specs.Grammar.{clause_text, list_text}
@@ -27,11 +26,11 @@ use Rattle.stream_check.specs.DroppedIdsValue.{DroppedIdsValue}
 use Rattle.stream_check.specs.StreamParams.{StreamParams, ownership_of, is_shared}
 use Rattle.stream_check.specs.StreamContext.{is_among}
 use Rattle.stream_check.specs.Judging.{ending_at, JudgesBlocks}
-use Rattle.stream_check.specs.Reaching.{Going, Over, JudgesBothEnds, ReachesState, IsFresh}
-use Rattle.stream_check.specs.CheckerValue.{Tally, report_of_tally, CheckerValue}
+use Rattle.stream_check.specs.Reaching.{Going, Over, JudgesBothEnds, IsFresh}
+use Rattle.stream_check.specs.CheckerValue.{report_of_tally, CheckerValue}
 use Rattle.stream_check.specs.internal.CheckerInside.{StreamStateValue, fresh_state, read_of, value_of}
-use Rattle.stream_check.specs.Checker.{checker_state, state_by, going_of, IsReadyAt, Extends, IsNew, EndsBy, Ends, ReportsEnd}
-use Rattle.stream_check.specs.internal.Taking.{IsReady, hold}
+use Rattle.stream_check.specs.Checker.{checker_state, going_of, Extends, IsNew, Ends, ReportsEnd}
+use Rattle.stream_check.specs.internal.Taking.{hold}
 use Rattle.stream_check.proofs.ReachingLemmas.{end_judged, line_grows, all_snoc}
 use Rattle.stream_check.specs.lemmas.ContextLemmas.{same_tally}
 use Rattle.stream_check.proofs.TakeLemmas.{reaches_front}
@@ -53,11 +52,7 @@ pub feeds_line : (h n : StreamStateValue) (read : List ℕ) (r : ReaderState) (u
     (ending : Option Ending) → ending ≡ None → r ≡ Ok []
     → Extends h.params (Going (hold h read free)) used blocks (Going (hold n [] left))
     → Extends h.params (checker_state (value_of h read ending) free) used blocks (checker_state (value_of n (read_of r) ending) left)
-feeds_line h n read r used blocks free left ending none reads reaches =
-    subst (λ (o : Option Ending). Extends h.params (checker_state (value_of h read o) free) used blocks
-    (checker_state (value_of n (read_of r) o) left)) (sym none)
-    (subst (λ (text : List ℕ). Extends h.params (Going (hold h read free)) used blocks (Going (hold n text left)))
-    (sym (ap read_of reads)) reaches)
+feeds_line h n read r used blocks free left ending none reads reaches = rw (none, ap read_of reads) reaches
 
 -- only the start of a line is taken
 pub feeds_more : (h : StreamStateValue) (read : List ℕ) (r : ReaderState) (piece : List ℕ) (used free : ℕ) (ending : Option Ending)
@@ -65,12 +60,7 @@ pub feeds_more : (h : StreamStateValue) (read : List ℕ) (r : ReaderState) (pie
     → Extends h.params (checker_state (value_of h read ending) free) (take used piece) []
     (checker_state (value_of h (read_of r) ending) free)
 feeds_more h read r piece used free ending none reads all pending =
-    subst (λ (o : Option Ending). Extends h.params (checker_state (value_of h read o) free) (take used piece) []
-    (checker_state (value_of h (read_of r) o) free)) (sym none)
-    (subst (λ (text : List ℕ). Extends h.params (Going (hold h read free)) (take used piece) [] (Going (hold h text free)))
-    (sym (ap read_of reads))
-    (subst (λ (b : List ℕ). Extends h.params (Going (hold h read free)) b [] (Going (hold h (read ++ piece) free)))
-    (sym (take_all used piece (omega (arith, all)))) (reaches_front h free read piece pending)))
+    rw (none, ap read_of reads, take_all used piece (omega (arith, all))) (reaches_front h free read piece pending)
 
 -- with more bytes of an unfinished line, the lines are cut as before
 pub front_cut : (bytes pending piece : List ℕ) (lines : List StreamLine) → IsPending (pending ++ piece) → Cut bytes lines pending
@@ -101,18 +91,6 @@ line_cut bytes pending used lines line text cut = record {
   last = no_line;
 }
 
--- What a checker requires of its parts, call after call
-
-pub ready_inside : (h : StreamStateValue) (read : List ℕ) (ending : Option Ending) (v : CheckerValue) (p : CallerView)
-    → value_of h read ending ≡ v
-    → IsReadyAt v p → IsReady h p
-ready_inside h read ending v p is ready =
-    let same = subst (λ (w : CheckerValue). IsReadyAt w p) (sym is) ready in
-    record { at = same.at; vacant = same.vacant }
-
-pub reads_on : (r : ReaderState) (read : List ℕ) → r ≡ Ok read → r ≡ Ok (read_of r)
-reads_on r read e = e ∙ ap (λ (b : List ℕ). Ok b) (sym (ap read_of e))
-
 -- if bytes lead from the `Going` state of an unfinished checker to a report, they lead from its
 -- `checker_state` to that report
 pub feeds_finished : (h : StreamStateValue) (read used : List ℕ) (blocks : List History) (free : ℕ) (ending : Option Ending)
@@ -120,9 +98,7 @@ pub feeds_finished : (h : StreamStateValue) (read used : List ℕ) (blocks : Lis
     (is_dropped : ℕ → Bool) → ending ≡ None
     → Extends h.params (Going (hold h read free)) used blocks (Over report is_dropped)
     → Extends h.params (checker_state (value_of h read ending) free) used blocks (Over report is_dropped)
-feeds_finished h read used blocks free ending report is_dropped none reaches =
-    subst (λ (o : Option Ending). Extends h.params (checker_state (value_of h read o) free) used blocks (Over report is_dropped)) (sym none)
-    reaches
+feeds_finished h read used blocks free ending report is_dropped none reaches = rw none reaches
 
 -- The end of the stream, or a failed read
 
@@ -132,33 +108,31 @@ either_report c bytes blocks stream_ends.Ended report finished = finished.0
 either_report c bytes blocks stream_ends.Failed report finished = finished.1
 
 -- a finished checker stays unchanged
-pub ends_finished : (end : StreamEnd) (v : CheckerValue) (ending : Ending) → v.ending ≡ Some ending → Ends end v v
-ends_finished end v ending finished = subst (λ (o : Option Ending). EndsBy o end v v) (sym finished) refl
-
-pub reports_finished : (end : StreamEnd) (v : CheckerValue) (ending : Ending) → v.ending ≡ Some ending → ReportsEnd end v v
-reports_finished end v ending finished bytes blocks free reaches = (
-  ending,
-  finished,
-  either_report v.params bytes blocks end (report_of_tally v.tally ending)
-      (subst (λ (o : Option Ending). ReachesState v.params bytes blocks (state_by v free o)) finished reaches).0,
-)
+pub ends_finished : (end : StreamEnd) (h : StreamStateValue) (read : List ℕ) (o : Option Ending) (v : CheckerValue) → value_of h read o ≡ v
+    → is_some o ≡ true → Ends end v v × ReportsEnd end v v
+ends_finished end h read None v is some = absurd (cc)
+ends_finished end h read (Some ending) v is some =
+    let finished : v.ending ≡ Some ending = sym (ap (λ (w : CheckerValue). w.ending) is) in (
+      rw finished refl,
+      λ bytes blocks free reaches. (
+        ending,
+        finished,
+        either_report v.params bytes blocks end (report_of_tally v.tally ending) (rw finished at reaches).0,
+      ),
+    )
 
 -- an unfinished checker gets this ending
-pub ends_now : (end : StreamEnd) (old new : CheckerValue) → old.ending ≡ None → new.params ≡ old.params → new.tally ≡ old.tally
-    → new.ending ≡ Some (ending_at end old.pending old.line) → new.last ≡ old.last → new.dropped ≡ old.dropped → Ends end old new
-ends_now end old new none params tally ending last dropped =
-    subst (λ (o : Option Ending). EndsBy o end old new) (sym none) (params, tally, ending, last, dropped)
-
-pub reports_now : (end : StreamEnd) (old new : CheckerValue) → old.ending ≡ None → new.tally ≡ old.tally
-    → new.ending ≡ Some (ending_at end old.pending old.line) → ReportsEnd end old new
-reports_now end old new none tally ending bytes blocks free reaches =
-    let said : Ending = ending_at end old.pending old.line in
-    let going : ReachesState old.params bytes blocks (Going (going_of old free)) =
-    subst (λ (o : Option Ending). ReachesState old.params bytes blocks (state_by old free o)) none reaches in (
-      said,
-      ending,
-      subst (JudgesBlocks old.params bytes end blocks) (ap (λ (t : Tally). report_of_tally t said) (sym tally))
-          (end_judged old.params bytes blocks (going_of old free) end going),
+pub ends_now : (end : StreamEnd) (h : StreamStateValue) (read left : List ℕ) (o : Option Ending) (v : CheckerValue) (said : Ending)
+    → value_of h read o ≡ v → o ≡ None → said ≡ ending_at end read h.line
+    → Ends end v (value_of h left (Some said)) × ReportsEnd end v (value_of h left (Some said))
+ends_now end h read left o v said is none says =
+    let old : CheckerValue = value_of h read None in
+    let new : CheckerValue = value_of h left (Some said) in
+    let ending : new.ending ≡ Some (ending_at end read h.line) = ap (λ (e : Ending). Some e) says in
+    subst (λ (w : CheckerValue). Ends end w new × ReportsEnd end w new) (ap (value_of h read) (sym none) ∙ is) (
+      (refl, refl, ending, refl, refl),
+      λ bytes blocks free reaches.
+          (ending_at end read h.line, ending, end_judged h.params bytes blocks (going_of old free) end reaches),
     )
 
 -- the end of the stream, in the middle of a line or between lines

@@ -56,21 +56,16 @@ same_fetches s id most done (suc k) (suc j) x y q r a b last other never =
 same_at : (ownership : Ownership) (c : StreamParams) (h : ℕ) (a b q r : History) (x y : Reply) → FetchesHintAt ownership c h a x
     → FetchesHintAt ownership c h b y
     → NeverFork (a ++ q) (b ++ r) → (a ≡ b) × (x ≡ y)
-same_at ownerships.Formula c h a b q r x y one two never =
-    let here = subst (λ e. NeverFork (e ++ q) ((fetch c.stream h y ∷ []) ++ r)) one (subst (λ e. NeverFork (a ++ q) (e ++ r)) two never) in
-    let e = here.0 (refl, refl) in
-    let is : x ≡ y = cc in (one ∙ ap (λ z. fetch c.stream h z ∷ []) is ∙ sym two, is)
-same_at ownerships.Own c h a b q r x y one two never =
-    let here = subst (λ e. NeverFork (e ++ q) ((fetch c.stream h y ∷ []) ++ r)) one (subst (λ e. NeverFork (a ++ q) (e ++ r)) two never) in
-    let e = here.0 (refl, refl) in
-    let is : x ≡ y = cc in (one ∙ ap (λ z. fetch c.stream h z ∷ []) is ∙ sym two, is)
 same_at ownerships.Foreign c h a b q r x y one two never =
-    let here =
-    subst (λ e. NeverFork (e ++ q) (fetches c.stream h two.0 y ++ r)) one.3 (subst (λ e. NeverFork (a ++ q) (e ++ r)) two.3 never) in
+    let here = rw (two.3, one.3) at never in
     let same = same_fetches c.stream h c.tries 0 one.0 two.0 x y q r (omega (arith, one.1)) (omega (arith, two.1))
     (λ is. let full = one.2 is in omega arith) (λ is. let full = two.2 is in omega arith) here in
     (one.3 ∙ ap (λ k. fetches c.stream h k x) same.0 ∙ ap (λ z. fetches c.stream h two.0 z) same.1 ∙ sym two.3, same.1)
 same_at ownerships.Outside c h a b q r x y one two never = (one.0 ∙ sym two.0, one.1 ∙ sym two.1)
+same_at _ c h a b q r x y one two never =
+    let here = subst (λ e. NeverFork (e ++ q) ((fetch c.stream h y ∷ []) ++ r)) one (subst (λ e. NeverFork (a ++ q) (e ++ r)) two never) in
+    let e = here.0 (refl, refl) in
+    let is : x ≡ y = cc in (one ∙ ap (λ z. fetch c.stream h z ∷ []) is ∙ sym two, is)
 
 -- two lists of events of one hint are the same if they never fork
 pub same_asked : (c : StreamParams) (h : ℕ) (a b q r : History) (x y : Reply) → FetchesHint c h a x → FetchesHint c h b y

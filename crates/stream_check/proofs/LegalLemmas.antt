@@ -2,7 +2,7 @@
 use Rattle.std.proofs.Common.{◌≡◌, ℕ, [], ◌∷◌, refl, sym, ap, subst, ◌∙◌}
 use Rattle.lrup_model.specs.Clause.{Clause}
 use Rattle.lrup_model.specs.Event as events
-use Rattle.lrup_model.specs.Event.{Event, History, Reply}
+use Rattle.lrup_model.specs.Event.{Event, Reply}
 use Rattle.lrup_model.specs.State.{State, Slot, absent, live, IsRetired, after, Answers}
 use Rattle.lrup_model.specs.History.{LegalFrom}
 use Rattle.lrup_model.specs.declared.clause_map.Published.{Published}

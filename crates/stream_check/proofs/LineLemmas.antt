@@ -84,9 +84,8 @@ room_retires p q es step quiet = omega (arith, step.room, spent-retires p.caller
 pub ready_retires : (old new : StreamStateValue) (p q : CallerView) (es : History) → CallerStep p q es → AllByRecursion IsRetire es
     → KeepsLines old new → IsReady old p → IsReady new q
 ready_retires old new p q es step quiet kept ready = record {
-  at = subst (λ (v : StreamStateValue). IsViewOf v.params q) (sym kept) (still_at old.params p q es ready.at step);
-  vacant = subst (λ (v : StreamStateValue). IsVacantAbove q v.last) (sym kept)
-      (vacant_on p q es old.last step (λ j none. run-retires-absent p.own es j quiet none) ready.vacant);
+  at = rw kept (still_at old.params p q es ready.at step);
+  vacant = rw kept (vacant_on p q es old.last step (λ j none. run-retires-absent p.own es j quiet none) ready.vacant);
 }
 
 -- The view after a publish

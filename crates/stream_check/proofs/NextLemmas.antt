@@ -83,13 +83,11 @@ next_alike : TextLaws → (c : StreamParams) (st : StreamContext) (text : List �
     → Next c st text ys → GoAlike xs ys
 next_alike laws c st text xs ys (inl a) (inl b) =
     let same = same_first laws a.line b.line a.more b.more a.fits b.fits (sym a.is ∙ b.is) in
-    let judged = subst (λ l. JudgesLine c st l a.block a.verdict) same.0 a.judged in
-    subst (λ (bs : List History). GoAlike bs ys) (sym a.first) (subst (λ (bs : List History). GoAlike (a.block ∷ a.later) bs) (sym b.first)
-    (λ q r never. (line_agrees c st b.line a.block b.block q r a.verdict b.verdict judged b.judged never).events))
+    let judged = rw same.0 at a.judged in
+    rw (a.first, b.first) (λ q r never. (line_agrees c st b.line a.block b.block q r a.verdict b.verdict judged b.judged never).events)
 next_alike laws c st text xs ys (inl a) (inr b) = absurd (b.1 a.line a.more a.fits a.is)
 next_alike laws c st text xs ys (inr a) (inl b) = absurd (a.1 b.line b.more b.fits b.is)
-next_alike laws c st text xs ys (inr a) (inr b) =
-    subst (λ (bs : List History). GoAlike bs ys) (sym a.0) (subst (λ (bs : List History). GoAlike [] bs) (sym b.0) tt)
+next_alike laws c st text xs ys (inr a) (inr b) = rw (a.0, b.0) tt
 
 -- if no line is good from here on, there is at most one block
 none_after : TextLaws
@@ -130,11 +128,8 @@ go_alike : TextLaws → (c : StreamParams) (end : StreamEnd) (before lines other
 go_alike laws c end before lines others all both rest left front back fore aft [] xs ys report other is also text fit fits good fine ends
     stops split also_split =
     next_alike laws c (context_of c before) (flat_map line_text others ++ left) xs ys
-    (subst (λ (bs : List History). Next c (context_of c before) (flat_map line_text others ++ left) bs) (sym split)
-    (subst (λ t. Next c (context_of c before) t (front ++ back)) text
-    (next_of laws c before lines all rest end front back report is fit good ends)))
-    (subst (λ (bs : List History). Next c (context_of c before) (flat_map line_text others ++ left) bs) (sym also_split)
-    (next_of laws c before others both left end fore aft other also fits fine stops))
+    (rw split (rw text at (next_of laws c before lines all rest end front back report is fit good ends)))
+    (rw also_split (next_of laws c before others both left end fore aft other also fits fine stops))
 go_alike laws c end before [] [] all both rest left [] back [] aft
     (p ∷ pre) xs ys report other is also text fit fits good fine ends stops split also_split =
     subst (λ (bs : List History). GoAlike bs ys) (sym (none_after laws c all rest end p back pre xs report ends split))
@@ -166,9 +161,8 @@ go_alike laws c end before (l ∷ lines) (o ∷ others) all both rest left (b �
     let tail : pre ++ xs ≡ front ++ back = cc in
     let also_tail : pre ++ ys ≡ fore ++ aft = cc in
     go_alike laws c end (before ++ o ∷ []) lines others all both rest left front back fore aft pre xs ys report other
-    (after_one before o lines all (subst (λ x. all ≡ before ++ (x ∷ lines)) same.0 is)) (after_one before o others both also)
-    same.1 fit.1 fits.1
-    (subst (λ x. AreGood c (before ++ x ∷ []) lines front) same.0 good.1) fine.1 ends stops tail also_tail
+    (after_one before o lines all (rw same.0 at is)) (after_one before o others both also)
+    same.1 fit.1 fits.1 (rw same.0 at good.1) fine.1 ends stops tail also_tail
 
 pub blocks_go_alike : TextLaws → BlocksGoAlike
 blocks_go_alike laws c bytes end before xs ys report other a b no_memory none =

@@ -35,14 +35,12 @@ use Rattle.stream_check.specs.lemmas.StoppingLemmas.{drops_none}
 good_snoc : (c : StreamParams) (before lines : List StreamLine) (blocks : List History) (line : StreamLine) (block : History)
     → AreGood c before lines blocks → JudgesLine c (context_of c (before ++ lines)) line block Good
     → AreGood c before (lines ++ line ∷ []) (blocks ++ block ∷ [])
-good_snoc c before [] [] line block good judged =
-    (subst (λ ls. JudgesLine c (context_of c ls) line block Good) (append-nil before) judged, tt)
+good_snoc c before [] [] line block good judged = (rw (append-nil before) at judged, tt)
 good_snoc c before [] (b ∷ blocks) line block good judged = absurd good
 good_snoc c before (l ∷ lines) [] line block good judged = absurd good
 good_snoc c before (l ∷ lines) (b ∷ blocks) line block good judged = (
   good.0,
-  good_snoc c (before ++ l ∷ []) lines blocks line block good.1
-      (subst (λ ls. JudgesLine c (context_of c ls) line block Good) (sym (append_assoc before (l ∷ []) lines)) judged),
+  good_snoc c (before ++ l ∷ []) lines blocks line block good.1 (rw (append_assoc before (l ∷ []) lines) judged),
 )
 
 -- more bytes after the texts of lines make the rest longer
@@ -72,8 +70,7 @@ nothing_pending texts none =
 
 pub fresh_left : TextsAreLines → EmptyCut → FreshLeft
 fresh_left texts none c now fresh =
-    let at_rest : (rest : List ℕ) → rest ≡ [] → Cut [] [] rest × IsPending rest =
-    λ rest e. subst (λ r. Cut [] [] r × IsPending r) (sym e) (none, nothing_pending texts none) in
+    let at_rest : (rest : List ℕ) → rest ≡ [] → Cut [] [] rest × IsPending rest = λ rest e. rw e (none, nothing_pending texts none) in
     let here = at_rest now.pending fresh.pending in
     record {
       lines = [];
@@ -286,12 +283,11 @@ pub end_judged : EndJudged
 end_judged c bytes blocks old end before =
     let lines = before.lines in
     let report = report_of_tally old.tally (ending_at end old.pending old.line) in
-    subst (λ b. JudgesBlocks c b end blocks report) (append-nil bytes)
-    (subst (λ b. JudgesBlocks c (bytes ++ []) end b report) (append-nil blocks)
-    (ends_after c bytes [] blocks [] old end report before
-    (at_end (subst IsPending (sym (append-nil old.pending)) before.pending) refl
-    (held_report c bytes blocks old (λ n. ending_at end old.pending n) before
-    ∙ ap (λ rest. report_of c lines 0 (ending_at end rest (capped (length lines + 1)))) (sym (append-nil old.pending))))))
+    rw (append-nil blocks, append-nil bytes)
+    at (ends_after c bytes [] blocks [] old end report before
+    (at_end (rw (append-nil old.pending) before.pending) refl
+    (held_report c bytes blocks old (λ n. ending_at end old.pending n) before ∙ ap
+    (λ rest. report_of c lines 0 (ending_at end rest (capped (length lines + 1)))) (sym (append-nil old.pending)))))
 
 -- More bytes
 

@@ -51,10 +51,6 @@ found_at : (ownership : Ownership) (c : StreamParams) (h : ℕ) (asked rest : Hi
     → FetchesHintAt ownership c h asked r
     → (reduced (asked ++ rest) ≡ (events.fetch c.stream h r ∷ []) ++ reduced rest)
     × FetchesHintAt ownership c h (events.fetch c.stream h r ∷ []) r
-found_at ownerships.Formula c h asked rest r found asks =
-    (ap (λ a. reduced (a ++ rest)) asks ∙ other_stays (events.fetch c.stream h r) rest (is_no_vacant c.stream h r found), refl)
-found_at ownerships.Own c h asked rest r found asks =
-    (ap (λ a. reduced (a ++ rest)) asks ∙ other_stays (events.fetch c.stream h r) rest (is_no_vacant c.stream h r found), refl)
 found_at ownerships.Foreign c h asked rest r found asks =
     let vacants = replicate asks.0 (events.fetch c.stream h events.vacant) in (
       ap (λ a. reduced (a ++ rest)) asks.3
@@ -63,6 +59,8 @@ found_at ownerships.Foreign c h asked rest r found asks =
       (0, omega arith, (λ vacant. absurd (found vacant)), refl),
     )
 found_at ownerships.Outside c h asked rest r found asks = absurd (found asks.1)
+found_at _ c h asked rest r found asks =
+    (ap (λ a. reduced (a ++ rest)) asks ∙ other_stays (events.fetch c.stream h r) rest (is_no_vacant c.stream h r found), refl)
 
 vacants_all : (s id k : ℕ)
     → list_all is_vacant (replicate k (events.fetch s id events.vacant) ++ events.fetch s id events.vacant ∷ []) ≡ true

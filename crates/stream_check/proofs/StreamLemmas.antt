@@ -177,8 +177,7 @@ streams_agree : TextLaws → (c : StreamParams) (end : StreamEnd) (before lines 
     → (front ≡ fore) × (back ≡ aft) × (report ≡ other)
 streams_agree laws c end before [] [] all both rest left [] back [] aft report other is also text fit fits good fine ends stops never =
     let same = is ∙ sym also in
-    let agree = ends_agree laws c both left end back aft report other
-    (subst (λ r. EndsWithout c both r end back report) text (subst (λ ls. EndsWithout c ls rest end back report) same ends)) stops never in
+    let agree = ends_agree laws c both left end back aft report other (rw (same, text) at ends) stops never in
     (refl, agree.0, agree.1)
 streams_agree laws c end before [] others all both rest left
     (b ∷ front) back fore aft report other is also text fit fits good fine ends stops never = absurd good
@@ -190,38 +189,32 @@ streams_agree laws c end before lines
     (o ∷ others) all both rest left front back [] aft report other is also text fit fits good fine ends stops never = absurd fine
 streams_agree laws c end before [] (o ∷ others) all both rest left [] back
     (b ∷ fore) aft report other is also text fit fits good fine ends stops never =
-    let here = subst (λ ls. EndsWithout c ls rest end back report) (is ∙ append-nil before) ends in
+    let here = rw (is ∙ append-nil before) at ends in
     absurd (ends_not_good laws c before rest (flat_map line_text others ++ left) end back report o b (joined fore ++ joined aft)
-    here fits.0 (text ∙ split_first o others left) fine.0
-    (subst (λ e. NeverFork (joined back) e) (append_assoc b (joined fore) (joined aft)) never))
+    here fits.0 (text ∙ split_first o others left) fine.0 (rw (append_assoc b (joined fore) (joined aft)) at never))
 streams_agree laws c end before (l ∷ lines) [] all both rest left
     (b ∷ front) back [] aft report other is also text fit fits good fine ends stops never =
-    let here = subst (λ ls. EndsWithout c ls left end aft other) (also ∙ append-nil before) stops in
+    let here = rw (also ∙ append-nil before) at stops in
     absurd (ends_not_good laws c before left (flat_map line_text lines ++ rest) end aft other l b (joined front ++ joined back)
     here fit.0 (sym text ∙ split_first l lines rest) good.0
-    (subst (λ e. NeverFork (joined aft) e) (append_assoc b (joined front) (joined back))
-    (never_fork_turned ((b ++ joined front) ++ joined back) (joined aft) never)))
+    (rw (append_assoc b (joined front) (joined back)) at (never_fork_turned ((b ++ joined front) ++ joined back) (joined aft) never)))
 streams_agree laws c end before (l ∷ lines) (o ∷ others) all both rest left (b ∷ front) back
     (d ∷ fore) aft report other is also text fit fits good fine ends stops never =
     let same = same_first laws l o (flat_map line_text lines ++ rest) (flat_map line_text others ++ left) fit.0 fits.0
     (sym (split_first l lines rest) ∙ text ∙ split_first o others left) in
-    let here = subst (λ e. NeverFork e (d ++ (joined fore ++ joined aft))) (append_assoc b (joined front) (joined back))
-    (subst (λ e. NeverFork ((b ++ joined front) ++ joined back) e) (append_assoc d (joined fore) (joined aft)) never) in
-    let first = subst (λ x. JudgesLine c (context_of c before) x b Good) same.0 good.0 in
+    let here = rw (append_assoc d (joined fore) (joined aft), append_assoc b (joined front) (joined back)) at never in
+    let first = rw same.0 at good.0 in
     let agree =
     line_agrees c (context_of c before) o b d (joined front ++ joined back) (joined fore ++ joined aft) Good Good first fine.0 here in
-    let later = never_fork_after d (joined front ++ joined back) (joined fore ++ joined aft)
-    (subst (λ e. NeverFork (e ++ (joined front ++ joined back)) (d ++ (joined fore ++ joined aft))) agree.events here) in
+    let later = never_fork_after d (joined front ++ joined back) (joined fore ++ joined aft) (rw agree.events at here) in
     let step = streams_agree laws c end (before ++ o ∷ []) lines others all both rest left front back fore aft report other
-    (after_one before o lines all (subst (λ x. all ≡ before ++ (x ∷ lines)) same.0 is)) (after_one before o others both also)
-    same.1 fit.1 fits.1
-    (subst (λ x. AreGood c (before ++ x ∷ []) lines front) same.0 good.1) fine.1 ends stops later in
+    (after_one before o lines all (rw same.0 at is)) (after_one before o others both also)
+    same.1 fit.1 fits.1 (rw same.0 at good.1) fine.1 ends stops later in
     (ap (λ x. x ∷ front) agree.events ∙ ap (λ x. d ∷ x) step.0, step.1, step.2)
 
 pub replies_decide : TextLaws → RepliesDecide
 replies_decide laws c bytes end blocks others report other never a b no_memory none =
-    let split = subst (λ e. NeverFork e (joined b.front ++ joined b.back)) (ap joined a.split ∙ joined-append a.front a.back)
-    (subst (λ e. NeverFork (joined blocks) e) (ap joined b.split ∙ joined-append b.front b.back) never) in
+    let split = rw (ap joined b.split ∙ joined-append b.front b.back, ap joined a.split ∙ joined-append a.front a.back) at never in
     let agree = streams_agree laws c end [] a.lines b.lines a.lines b.lines a.rest b.rest a.front a.back b.front b.back report other
     refl refl (sym a.text ∙ b.text) a.fits b.fits a.good b.good
     (a.ends, no_memory) (b.ends, none) split in
@@ -229,5 +222,4 @@ replies_decide laws c bytes end blocks others report other never a b no_memory n
 
 pub one_report : TextLaws → OneReport
 one_report laws c bytes end blocks others report other same a b no_memory none =
-    replies_decide laws c bytes end blocks others report other
-    (subst (λ e. NeverFork (joined blocks) e) same (never_fork_alone (joined blocks))) a b no_memory none
+    replies_decide laws c bytes end blocks others report other (rw (← same) (never_fork_alone (joined blocks))) a b no_memory none

@@ -1,5 +1,5 @@
 -- A line is taken, after any bytes and events.
-use Rattle.std.proofs.Common.{◌≡◌, ◌+◌, ℕ, List, [], ◌∷◌, ◌++◌, length, Ok, Err, sym, ap, subst, ◌∙◌, append-nil}
+use Rattle.std.proofs.Common.{◌≡◌, ◌+◌, ℕ, List, [], ◌∷◌, ◌++◌, length, Ok, Err, sym, ap, ◌∙◌, append-nil}
 use Rattle.lrup_model.specs.Event.{History}
 use Rattle.lrup_text.specs.Lines.{StreamLine, LineText, IsPending}
 use Rattle.lrup_text.specs.declared.LineFault.{LineFault}
@@ -12,7 +12,7 @@ use Rattle.stream_check.specs.declared.line_stop.LineStop.{LineStop}
 use Rattle.stream_check.specs.declared.line_stop.LineStop.TheVariants as stops
 use Rattle.stream_check.specs.StreamContext.{capped, is_among}
 use Rattle.stream_check.specs.CheckerValue.{report_of_tally}
-use Rattle.stream_check.specs.Reaching.{Going, Over, ReachesState}
+use Rattle.stream_check.specs.Reaching.{Going, Over}
 use Rattle.stream_check.specs.internal.CheckerInside.{StreamStateValue, tally_at, deleted_at}
 use Rattle.stream_check.specs.Checker.{Extends}
 use Rattle.stream_check.specs.internal.Taking.{hold, DeletesMore, TakesBy, ending_of}
@@ -40,28 +40,23 @@ pub reaches_stopped : (old new : StreamStateValue) (free left : ℕ) (read used 
     → Extends old.params (Going (hold old read free)) used (es ∷ [])
     (Over (report_of_tally (tally_at new) (ending_of new.line stop)) (is_among new.dropped.ids))
 reaches_stopped old new free left read used line es (stops.Bad fault) text takes bytes before reaches =
-    subst (λ (r : Report). ReachesState old.params (bytes ++ used) (before ++ es ∷ []) (Over r (is_among new.dropped.ids)))
-    (report_is old new takes.0 (λ n. endings.Bad n fault) takes.4)
-    (bad_line_taken old.params bytes used before es (hold old read free) line takes.0 takes.1 fault (is_among new.dropped.ids) reaches text
-    takes.2 takes.3 takes.4.dropped)
+    rw (report_is old new takes.0 (λ n. endings.Bad n fault) takes.4)
+    at (bad_line_taken old.params bytes used before es (hold old read free) line takes.0 takes.1 fault (is_among new.dropped.ids) reaches
+    text takes.2 takes.3 takes.4.dropped)
 reaches_stopped old new free left read used line es stops.Memory text takes bytes before reaches =
-    subst (λ (r : Report). ReachesState old.params (bytes ++ used) (before ++ es ∷ []) (Over r (is_among new.dropped.ids)))
-    (report_is old new takes.2 (λ n. endings.Memory n) takes.5)
-    (memory_wanted old.params bytes used before es (hold old read free) takes.0 takes.1 takes.2 (is_among new.dropped.ids) reaches
-    (subst (λ (l : StreamLine). LineText l (read ++ used)) takes.3 text) takes.4 takes.5.dropped)
+    rw (report_is old new takes.2 (λ n. endings.Memory n) takes.5)
+    at (memory_wanted old.params bytes used before es (hold old read free) takes.0 takes.1 takes.2 (is_among new.dropped.ids) reaches
+    (rw takes.3 at text) takes.4 takes.5.dropped)
 
 -- the start of a line leads to a state in which it is pending
 pub reaches_front : (old : StreamStateValue) (free : ℕ) (read piece : List ℕ) → IsPending (read ++ piece)
     → Extends old.params (Going (hold old read free)) piece [] (Going (hold old (read ++ piece) free))
 reaches_front old free read piece pending bytes before reaches =
-    subst (λ (blocks : List History). ReachesState old.params (bytes ++ piece) blocks (Going (hold old (read ++ piece) free)))
-    (sym (append-nil before)) (pending_grows old.params bytes piece before (hold old read free) reaches pending)
+    rw (append-nil before) (pending_grows old.params bytes piece before (hold old read free) reaches pending)
 
 -- a text that no line begins with leads to a finished state
 pub reaches_refused : (old : StreamStateValue) (free : ℕ) (read used : List ℕ) (fault : LineFault) → IsRefused (read ++ used) fault
     → Extends old.params (Going (hold old read free)) used []
     (Over (report_of_tally (tally_at old) (endings.Bad old.line (faults.Text fault))) (is_among old.dropped.ids))
 reaches_refused old free read used fault refused bytes before reaches =
-    subst (λ (blocks : List History). ReachesState old.params (bytes ++ used) blocks
-    (Over (report_of_tally (tally_at old) (endings.Bad old.line (faults.Text fault))) (is_among old.dropped.ids))) (sym (append-nil before))
-    (bad_text_read old.params bytes used before (hold old read free) fault reaches refused)
+    rw (append-nil before) (bad_text_read old.params bytes used before (hold old read free) fault reaches refused)

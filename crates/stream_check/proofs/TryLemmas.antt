@@ -1,5 +1,5 @@
 -- Lemmas about the look-up of one identity, and about hints, one after the other.
-use Rattle.std.proofs.Common.{◌≡◌, ◌≤◌, ◌+◌, ◌∙◌, ℕ, ℤ, neg_ℤ, Bool, List, [], ◌∷◌, ◌++◌, length, Ok, Err, inl, inr, refl}
+use Rattle.std.proofs.Common.{◌≡◌, ◌+◌, ◌∙◌, ℕ, ℤ, neg_ℤ, Bool, List, [], ◌∷◌, ◌++◌, length, Ok, Err, inl, inr, refl}
 use Rattle.std.proofs.Common.{sym, ap, subst, arith, append_assoc, append-nil}
 use Rattle.std.specs.Prelude.{replicate}
 use Rattle.std.specs.List.{AllByRecursion}
@@ -29,20 +29,13 @@ replicate-more k e = replicate-append-replicate k 1 e
 -- the clause of a clip that is known in the later view follows from the earlier view's formula
 pub derived_before : (p q : CallerView) (es : History) (clip : ClipValue) → CallerStep p q es → IsKnown q clip → AllFollow q
     → IsDerived p.caller.formula (clip_clause q clip)
-derived_before p q es clip step known follow =
-    subst (λ (f : Cnf). IsDerived f (clip_clause q clip)) (ap (λ (r : Caller). r.formula) step.caller) (known_follows q clip follow known)
+derived_before p q es clip step known follow = rw (ap (λ (r : Caller). r.formula) step.caller) at (known_follows q clip follow known)
 
 -- in the earlier view, too, the formula's variables are those of the stream's layout
 pub variables_before : (c : StreamParams) (p q : CallerView) (es : History) → IsViewOf c p → CallerStep p q es
     → q.caller.formula.vars ≡ q.caller.layout.vars → p.caller.formula.vars ≡ c.layout.vars
 variables_before c p q es at step there = subst (λ (r : Caller). r.formula.vars ≡ r.layout.vars) step.caller there
     ∙ ap (λ (l : LayoutValue). l.vars) at.layout
-
--- marks that cover the layout's variables cover all variables of the formula
-pub variables_fit : (c : StreamParams) (p q : CallerView) (es : History) (vars : ℕ) → IsViewOf c p → CallerStep p q es
-    → q.caller.formula.vars ≡ q.caller.layout.vars → c.layout.vars ≤ vars → q.caller.formula.vars ≤ vars
-variables_fit c p q es vars at step there most =
-    omega (arith, ap (λ (r : Caller). r.formula.vars) step.caller, variables_before c p q es at step there, most)
 
 -- Hints one after the other
 
@@ -121,7 +114,5 @@ module _ (c : StreamParams) (is_dropped : ℕ → Bool) (f : Cnf) (n m : List �
 pub shows_none : (c : StreamParams) (is_dropped : ℕ
     → Bool) (f : Cnf) (n : List ℤ) (hints : List ℕ) (m : List ℤ) (left : List ℕ) (es : History)
     → length left ≡ 0 → HasLed c is_dropped f n hints m left es → Shows c is_dropped f n hints es (Err faults.NoConflict)
-shows_none c is_dropped f n hints m [] es none before =
-    subst (λ (x : History). FailsHints c is_dropped n hints x faults.NoConflict) (append-nil es)
-    (before.fails [] faults.NoConflict (refl, refl))
+shows_none c is_dropped f n hints m [] es none before = rw (append-nil es) at (before.fails [] faults.NoConflict (refl, refl))
 shows_none c is_dropped f n hints m (h ∷ left) es none before = absurd (omega (arith, none))

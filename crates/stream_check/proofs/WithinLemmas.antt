@@ -75,13 +75,11 @@ line_deletes : (c : StreamParams) (n : State) (before : List StreamLine) (line :
     (es rest : History)
     → JudgesLine c (context_of c before) line es (Bad deleted fault) → OwnRun n (es ++ rest)
     → AreTaken c n (context_of c before).is_dropped [] many → many + deleted ≤ last_identity c.layout
-line_deletes c n before (Addition id lits hints) many deleted fault es rest judged answers are =
-    omega (arith, judged.0, taken_within c n (context_of c before).is_dropped [] many are)
-line_deletes c n before (Import id lits) many deleted fault es rest judged answers are =
-    omega (arith, judged.0, taken_within c n (context_of c before).is_dropped [] many are)
 line_deletes c n before (Deletion lead ids) many deleted fault es rest judged answers are =
     let took = identities_took c n (context_of c before).is_dropped [] ids many es rest (Bad deleted fault) judged answers are in
     omega (arith, took.4, taken_within c took.0 (context_of c before).is_dropped took.1 took.2 took.3)
+line_deletes c n before _ many deleted fault es rest judged answers are =
+    omega (arith, judged.0, taken_within c n (context_of c before).is_dropped [] many are)
 
 ends_delete : (c : StreamParams) (n : State) (lines : List StreamLine) (rest : List ℕ) (end : StreamEnd) (back : List History)
     (report : Report)
@@ -162,7 +160,7 @@ unfolding SameOwn
 counts_within f c h bytes end blocks report legal mine j =
     let answers : OwnRun (opening f) (own h c.stream) =
     own_runs f c.layout c.stream (opening f) (opening f) h legal.events (λ id owns. refl) in
-    let split = subst (OwnRun (opening f)) (mine ∙ ap joined j.split ∙ joined-append j.front j.back) answers in
+    let split = rw (mine ∙ ap joined j.split ∙ joined-append j.front j.back) at answers in
     let none : AreTaken c (opening f) (context_of c []).is_dropped [] 0 = record { ids = []; apart = tt; taken = tt; count = refl } in
     let taken = lines_took c (opening f) [] j.lines j.front 0 (joined j.back) j.good split none in
     let exact : AreTaken c (run (opening f) (joined j.front)) (context_of c j.lines).is_dropped []

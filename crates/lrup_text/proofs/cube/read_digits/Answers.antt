@@ -10,9 +10,7 @@ use Rattle.lrup_text.proofs.Steps.{literal_blocks, literal_exceeds}
 use Rattle.lrup_text.proofs.cube.read_digits.Goals as goal
 
 pub loop-byte-init : goal.loop-byte-init
-loop-byte-init c =
-    subst (λ n. DigitsSoFar c.args.first c.args.after.now n 1 c.args.after.now) (sym c.from-number.ensures)
-    (digits_start c.args.first c.args.after.now c.requires.low c.requires.high)
+loop-byte-init c = rw c.from-number.ensures (digits_start c.args.first c.args.after.now c.requires.low c.requires.high)
 
 pub returns-then-byte-eq32-clause-number : goal.returns-then-byte-eq32-clause-number
 returns-then-byte-eq32-clause-number c =
@@ -75,6 +73,5 @@ pub returns-clause-fault : goal.returns-clause-fault
 returns-clause-fault c =
     let k = c.loop-byte.digits in
     digits_fault c.args.first c.args.after.now c.loop-byte.number k c.loop-byte.rest.now Spelling c.loop-byte.invariant
-    (λ read n few occurs. subst (λ (t : List ℕ). IsTextFault IsCubeLine (read ++ t) Spelling)
-    (sym (nil_from_length c.loop-byte.rest.now c.in_default.ensures.cases))
+    (λ read n few occurs. rw (nil_from_length c.loop-byte.rest.now c.in_default.ensures.cases)
     (too_short read (InLiteral true k n) occurs (c.loop-byte.invariant.fits.few, few)))

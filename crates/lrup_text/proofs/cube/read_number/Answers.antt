@@ -1,9 +1,7 @@
-use Rattle.std.proofs.Common.{ℕ, true, List, ◌++◌, sym, subst}
+use Rattle.std.proofs.Common.{ℕ, true, List, sym, subst}
 use Rattle.std.proofs.lemmas.List.{nil_from_length}
 use Rattle.std.proofs.lemmas.Result.{IfErr-weaker}
-use Rattle.lrup_text.specs.declared.cube.CubeFault.TheVariants.{Spelling}
 use Rattle.lrup_text.specs.internal.CubeReading.{IsRestFault}
-use Rattle.lrup_text.specs.Cubes.{IsCubeLine, IsTextFault}
 use Rattle.lrup_text.specs.internal.Rests.{AfterMinus, InLiteral}
 use Rattle.lrup_text.proofs.CubeFaults.{misspelled, rest_fault, too_short}
 use Rattle.lrup_text.proofs.Steps.{minus_blocks, minus_digit}
@@ -11,13 +9,11 @@ use Rattle.lrup_text.proofs.cube.read_number.Goals as goal
 
 pub returns-in_default-clause-fault : goal.returns-in_default-clause-fault
 returns-in_default-clause-fault c read n few occurs =
-    subst (λ (t : List ℕ). IsTextFault IsCubeLine (read ++ t) Spelling) (sym (nil_from_length c.args.text.now c.in_default.ensures.cases))
-    (too_short read (AfterMinus true n) occurs few)
+    rw (nil_from_length c.args.text.now c.in_default.ensures.cases) (too_short read (AfterMinus true n) occurs few)
 
 pub returns-then-not-begins_number-clause-fault : goal.returns-then-not-begins_number-clause-fault
 returns-then-not-begins_number-clause-fault c read n few occurs =
-    subst (λ (t : List ℕ). IsTextFault IsCubeLine (read ++ t) Spelling) (sym c.in-Some.ensures.cases.0)
-    (misspelled read (AfterMinus true n) c.in-Some.field-0-0.now c.in-Some.after.now occurs few
+    rw c.in-Some.ensures.cases.0 (misspelled read (AfterMinus true n) c.in-Some.field-0-0.now c.in-Some.after.now occurs few
     (λ signed. minus_blocks signed true n c.in-Some.field-0-0.now (λ low high. let wrong = c.if-not-begins_number.ensures.1 (
       low,
       high,

@@ -1,7 +1,6 @@
-use Rattle.std.proofs.Common.{◌+◌, ◌*◌, ◌∙◌, take, subst, sym}
+use Rattle.std.proofs.Common.{◌+◌, ◌*◌, ◌∙◌, take, subst}
 use Rattle.lrup_model.specs.CallerView.{clip_clause}
 use Rattle.lrup_model.specs.lemmas.PassLemmas.{known_follows}
-use Rattle.lrup_model.specs.Propagation.{IsUnit}
 use Rattle.propagate.specs.internal.ClauseStatus.{HasStatus}
 use Rattle.propagate.specs.declared.marks.ClauseStatus.TheVariants.{Nothing}
 use Rattle.propagate.proofs.MarkLemmas.{IsLiteral-known}
@@ -31,9 +30,8 @@ status_after-requires-clause-status g c =
     let at = rw c.loop-i.invariant.stays at c.pair-first.ensures.first in
     let at' = rw c.loop-i.invariant.stays at c.pair-first.ensures.second in
     let after = c.status_with_pair.ensures d c.loop-i.i once at at' c.loop-i.invariant.status in
-    let unit = subst (HasStatus n (take (2 * (c.loop-i.i + 1)) d)) c.in-One.is after in
-    subst (λ p. IsUnit n (take (2 * (c.loop-i.i + 1)) (clip_clause p c.args.clip.now)) c.in-One.lit)
-    (sym (c.pair-first.ensures.stays ∙ c.loop-i.invariant.stays)) unit
+    let unit = rw c.in-One.is at after in
+    rw (c.pair-first.ensures.stays ∙ c.loop-i.invariant.stays) unit
 
 pub returns-in-One-clause-event : goal.returns-in-One-clause-event
 returns-in-One-clause-event g c =

@@ -1,6 +1,5 @@
-use Rattle.std.proofs.Common.{arith, rules, ◌≡◌, ◌≤◌, ◌++◌, ◌∷◌, [], ◌∙◌, take, get_or, to_z, of_z, w64, ap, subst, sym}
+use Rattle.std.proofs.Common.{arith, rules, ◌≡◌, ◌≤◌, ◌++◌, ◌∷◌, [], ◌∙◌, take, get_or, to_z, of_z, w64, ap, sym}
 use Rattle.std.specs.Prelude.{pos, nat_abs}
-use Rattle.std.specs.List.{AllByRecursion}
 use Rattle.std.proofs.lemmas.Int.{to_z-of_z}
 use mir.Val.{SFits}
 use Rattle.lrup_model.specs.Literal.{IsLiteral, max_variable}
@@ -18,8 +17,7 @@ returns-in_default-2-clause-within c = (
       All-from_recursion (IsLiteral c.args.vars) c.args.numbers.now all c.loop-number.number-index (pos 0) c.loop-number-test.true in
       let fits : SFits w64 z = search rules in
       let most : nat_abs z ≤ max_variable = omega (arith, here.1, c.requires.variables) in
-      let lit : IsLiteral max_variable (to_z w64 (of_z w64 z)) =
-      subst (IsLiteral max_variable) (sym (to_z-of_z w64 z fits)) (here.0, most) in
+      let lit : IsLiteral max_variable (to_z w64 (of_z w64 z)) = rw (to_z-of_z w64 z fits) (here.0, most) in
       c.in_default.ensures.literal.1 lit,
 )
 
@@ -34,8 +32,7 @@ loop-number-preserved c =
     let here : IsLiteral c.args.vars x = (c.var.ensures.literal.0, most) in
     record {
       items = c.push_reserved.ensures.items ∙ ap (λ ls. ls ++ x ∷ []) c.loop-number.invariant.items ∙ sym next;
-      within = subst (AllByRecursion (IsLiteral c.args.vars)) (sym next)
-          (All-push (IsLiteral c.args.vars) (take k xs) x c.loop-number.invariant.within here);
+      within = rw next (All-push (IsLiteral c.args.vars) (take k xs) x c.loop-number.invariant.within here);
       count = search rules;
       capacity = search rules;
     }

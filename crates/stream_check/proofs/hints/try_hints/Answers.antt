@@ -1,11 +1,9 @@
-use Rattle.std.proofs.Common.{◌≡◌, ◌∙◌, ℕ, ℤ, neg_ℤ, Bool, Result, List, [], ◌∷◌, ◌++◌, refl, sym, ap, subst, append-nil}
+use Rattle.std.proofs.Common.{◌≡◌, ◌∙◌, ℕ, neg_ℤ, Bool, [], ◌∷◌, ◌++◌, refl, ap, subst, append-nil}
 use Rattle.std.proofs.lemmas.Result.{err_from_is_err_and}
 use Rattle.lrup_model.specs.CallerView.{clip_clause}
 use Rattle.propagate.specs.Marks.{Propagation}
-use Rattle.stream_check.specs.declared.fault.Fault.{Fault}
 use Rattle.stream_check.specs.StreamContext.{is_among}
-use Rattle.stream_check.specs.internal.Checking.{Shows}
-use Rattle.stream_check.proofs.TryLemmas.{derived_before, variables_before, HasLed, goes_on, shows_unfound}
+use Rattle.stream_check.proofs.TryLemmas.{derived_before, variables_before, goes_on, shows_unfound}
 use Rattle.stream_check.proofs.TryLemmas.{shows_not_unit, shows_none, shows_conflict}
 use Rattle.stream_check.proofs.hints.try_hints.Goals as goal
 
@@ -50,12 +48,11 @@ hints-preserved g c =
       );
       led = (
         led.0 ++ looked.0,
-        subst (g.M.ClauseMap.moves c.args.map.now c.hint.new.map) (append-nil (led.0 ++ looked.0)) tried,
-        subst (λ (n : List ℤ). HasLed s is_dropped p.caller.formula c.args.marks.now.falses c.args.hints.now n c.in-Some.rest.now
-            (led.0 ++ looked.0)) (sym falses)
+        rw (append-nil (led.0 ++ looked.0)) at tried,
+        rw falses
             (goes_on s is_dropped p.caller.formula c.args.marks.now.falses c.hints.marks.falses c.args.hints.now c.in-Some.hint.now
-            c.hints.left.now c.in-Some.rest.now led.0 looked.0 c.in-Some.ensures.cases.0 led.2
-            (clip_clause q c.in_ok-clip.clip) looked.2 step.0 derived step.1),
+            c.hints.left.now c.in-Some.rest.now led.0 looked.0 c.in-Some.ensures.cases.0 led.2 (clip_clause q c.in_ok-clip.clip) looked.2
+            step.0 derived step.1),
       );
     }
 
@@ -79,10 +76,8 @@ returns-in-Conflict-clause-shown g c =
     c.hints.left.now c.in-Some.rest.now led.0 looked.0 c.in-Some.ensures.cases.0 led.2 (clip_clause q c.in_ok-clip.clip) looked.2
     c.requires.consistent derived variables c.in-Conflict.ensures.step.0 in (
       led.0 ++ looked.0,
-      subst (g.M.ClauseMap.moves c.args.map.now c.hint.new.map) (append-nil (led.0 ++ looked.0)) tried,
-      subst (λ (r : Result (Unit {0}) Fault). Shows s is_dropped p.caller.formula c.args.marks.now.falses c.args.hints.now
-          (led.0 ++ looked.0) r)
-          (sym c.excess.ensures) shown,
+      rw (append-nil (led.0 ++ looked.0)) at tried,
+      rw c.excess.ensures shown,
     )
 
 pub returns-in-NotUnit-clause-shown : goal.returns-in-NotUnit-clause-shown
@@ -120,12 +115,11 @@ returns-in_err-clip-clause-shown g c =
 
 pub returns-clause-shown : goal.returns-clause-shown
 returns-clause-shown g c =
-    let s = c.args.state.now.params in
     let f = (g.M.ClauseMap.caller_view c.args.map.now).caller.formula in
     let is_dropped : ℕ → Bool = is_among c.args.state.now.dropped.ids in
     let led = c.hints.invariant.led in (
       led.0,
       led.1,
-      shows_none s is_dropped f c.args.marks.now.falses c.args.hints.now c.hints.marks.falses c.hints.left.now led.0
+      shows_none c.args.state.now.params is_dropped f c.args.marks.now.falses c.args.hints.now c.hints.marks.falses c.hints.left.now led.0
           c.in_default.ensures.cases led.2,
     )

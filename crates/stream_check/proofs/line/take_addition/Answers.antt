@@ -51,9 +51,8 @@ returns-clause-taken g c =
 
 pub returns-clause-ready : goal.returns-clause-ready
 returns-clause-ready g c =
-    let old = c.args.state.now in
     let p = g.M.ClauseMap.caller_view c.args.map.now in
     let q = g.M.ClauseMap.caller_view c.add.new.map in
     let judged = c.in_ok-add.ensures.judged in
-    rw c.count_addition.ensures (ready_publish old _ p q p.room judged.0 c.args.id c.args.lits.now c.args.hints.now
+    rw c.count_addition.ensures (ready_publish c.args.state.now _ p q p.room judged.0 c.args.id c.args.lits.now c.args.hints.now
     (g.met.M.ClauseMap.moves_are_step c.args.map.now c.add.new.map judged.0 judged.1) judged.2 refl refl c.requires.ready)

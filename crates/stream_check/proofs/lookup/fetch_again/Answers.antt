@@ -46,9 +46,7 @@ loop-before-preserved g c =
     let s = (g.M.ClauseMap.caller_view c.args.map.now).caller.stream in
     let front : History = replicate c.loop-before.before (fetch s c.args.id vacant) in
     let step = g.met.M.ClauseMap.moves_are_step c.args.map.now c.loop-before.map front c.loop-before.invariant in
-    let last : g.M.ClauseMap.moves c.loop-before.map c.fetch.new.self (fetch s c.args.id vacant ∷ []) =
-    subst (λ (t : ℕ). g.M.ClauseMap.moves c.loop-before.map c.fetch.new.self (fetch t c.args.id vacant ∷ []))
-    (ap (λ (r : Caller). r.stream) step.caller) c.in-Vacant.ensures.event in
-    subst (g.M.ClauseMap.moves c.args.map.now c.fetch.new.self) (replicate-more c.loop-before.before (fetch s c.args.id vacant))
-    (g.met.M.ClauseMap.moves_append c.args.map.now c.loop-before.map c.fetch.new.self front
-    (fetch s c.args.id vacant ∷ []) c.loop-before.invariant last)
+    let last = rw (ap (λ (r : Caller). r.stream) step.caller) at c.in-Vacant.ensures.event in
+    rw (replicate-more c.loop-before.before (fetch s c.args.id vacant))
+    at (g.met.M.ClauseMap.moves_append c.args.map.now c.loop-before.map c.fetch.new.self front (fetch s c.args.id vacant ∷ [])
+    c.loop-before.invariant last)

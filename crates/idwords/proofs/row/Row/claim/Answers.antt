@@ -65,26 +65,10 @@ invariant_of-seat c =
     c.compare_exchange-found.result c.args.id one
     c.seat.invariant c.compare_exchange-found.ensures.0 c.compare_exchange-found.ensures.2).0 c.if-found-eq-VACANT.true
 
-pub returns-then-found-eq-VACANT-clause-calls : goal.returns-then-found-eq-VACANT-clause-calls
-returns-then-found-eq-VACANT-clause-calls c = search rules
+pub returns-then-found-eq-VACANT : goal.returns-then-found-eq-VACANT
+returns-then-found-eq-VACANT c =
+    record { row = search rules; calls = search rules; done = search rules; top = search rules; draft = search rules }
 
-pub returns-then-found-eq-VACANT-clause-done : goal.returns-then-found-eq-VACANT-clause-done
-returns-then-found-eq-VACANT-clause-done c = search rules
-
-pub returns-then-found-eq-VACANT-clause-top : goal.returns-then-found-eq-VACANT-clause-top
-returns-then-found-eq-VACANT-clause-top c = search rules
-
-pub returns-then-found-eq-VACANT-clause-draft : goal.returns-then-found-eq-VACANT-clause-draft
-returns-then-found-eq-VACANT-clause-draft c = search rules
-
-pub returns-else-found-eq-VACANT-clause-calls : goal.returns-else-found-eq-VACANT-clause-calls
-returns-else-found-eq-VACANT-clause-calls c = search rules
-
-pub returns-else-found-eq-VACANT-clause-done : goal.returns-else-found-eq-VACANT-clause-done
-returns-else-found-eq-VACANT-clause-done c = search rules
-
-pub returns-else-found-eq-VACANT-clause-top : goal.returns-else-found-eq-VACANT-clause-top
-returns-else-found-eq-VACANT-clause-top c = search rules
-
-pub returns-else-found-eq-VACANT-clause-draft : goal.returns-else-found-eq-VACANT-clause-draft
-returns-else-found-eq-VACANT-clause-draft c = search rules
+pub returns-else-found-eq-VACANT : goal.returns-else-found-eq-VACANT
+returns-else-found-eq-VACANT c =
+    record { row = search rules; calls = search rules; done = search rules; top = search rules; draft = search rules }

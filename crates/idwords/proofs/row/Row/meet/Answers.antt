@@ -1,8 +1,7 @@
-use Rattle.std.proofs.Common.{◌≡◌, ℕ, ◌++◌, List, [], ◌∷◌, refl, sym, ap, ap₂, subst, ◌∙◌, arith}
+use Rattle.std.proofs.Common.{◌≡◌, ℕ, ◌++◌, List, [], ◌∷◌, refl, sym, ap, ap₂, ◌∙◌, arith}
 use mathlib.Core.Option.{none}
-use Rattle.atomic_table.specs.Table.{step, Me, Allows}
+use Rattle.atomic_table.specs.Table.{step, Me}
 use Rattle.idwords.specs.Seats.{ThreadState, SeatValue}
-use Rattle.idwords.specs.internal.Rule.{HoldsRowInvariant}
 use Rattle.idwords.specs.internal.Seating.{first_thread}
 use Rattle.idwords.specs.internal.Steps.{Joined, SyncThreads}
 use Rattle.idwords.proofs.MeetLemmas.{splits_all, splits_thread, joins, meets, joined, parted}
@@ -65,9 +64,7 @@ load-requires c =
         words_of token.table_id shared.table_id token.me c.first.inside.top c.first.inside.drafted c.first.inside.room
             c.first.invariant table,
       ),
-      subst (λ (m : Me ℕ (List ThreadState)). Allows {S = ℕ} (HoldsRowInvariant shared.key.formula.value shared.key.layout)
-          shared.table_id.slots new.id m 0
-          (λ n. n) (Joined one m)) (sym me)
+      rw me
           (meets shared.key.formula.value shared.key.layout shared.table_id.slots new.id v v' 0 (Joined one (v ∷ v' ∷ [], []))
           (joined one v v')),
     )

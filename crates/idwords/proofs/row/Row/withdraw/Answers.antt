@@ -44,8 +44,7 @@ compare_exchange-requires c =
     let me : new.me ≡ (v ∷ [], []) = ap₂ (λ (vs : List ThreadState) (slots : List (ℕ × ℕ)). (vs, slots))
     (known.1 ∙ ap (λ (u : ThreadState). u ∷ []) stays)
     (known.2 ∙ ap (λ (m : Me ℕ (List ThreadState)). m.1) c.seat.invariant.one) in
-    let owns : Owns v.view.caller.layout (thread_stream v) c.args.id =
-    subst (λ (s : SeatValue). Owns s.view.caller.layout s.view.caller.stream c.args.id) (sym c.seat.view_is) c.requires.owns in
+    let owns : Owns v.view.caller.layout (thread_stream v) c.args.id = rw (← c.seat.view_is) at c.requires.owns in
     let table : token.table_id ≡ shared.table_id = ap (λ (s : SeatValue). s.table) c.seat.view_is ∙ c.requires.row ∙ sym c.self.view_is in
     let who = owned v.view.caller.layout (thread_stream v) c.args.id
     (omega (arith, c.seat.invariant.fair.caller.layout.some_stream)) owns in
@@ -79,20 +78,9 @@ invariant_of-seat-2 c =
     c.seat.invariant
     (c.compare_exchange.ensures.0 ∙ c.load-found.ensures.0) done.1 (done.2 ∙ known.2) done.3.calls refl refl done.3.top done.3.draft
 
-pub returns-then-state-ne-LIVE-clause-calls : goal.returns-then-state-ne-LIVE-clause-calls
-returns-then-state-ne-LIVE-clause-calls c = search rules
+pub returns-then-state-ne-LIVE : goal.returns-then-state-ne-LIVE
+returns-then-state-ne-LIVE c =
+    record { row = search rules; calls = search rules; done = search rules; top = search rules; draft = search rules }
 
-pub returns-then-state-ne-LIVE-clause-done : goal.returns-then-state-ne-LIVE-clause-done
-returns-then-state-ne-LIVE-clause-done c = search rules
-
-pub returns-clause-calls : goal.returns-clause-calls
-returns-clause-calls c = search rules
-
-pub returns-clause-done : goal.returns-clause-done
-returns-clause-done c = search rules
-
-pub returns-clause-top : goal.returns-clause-top
-returns-clause-top c = search rules
-
-pub returns-clause-draft : goal.returns-clause-draft
-returns-clause-draft c = search rules
+pub returns : goal.returns
+returns c = record { row = search rules; calls = search rules; done = search rules; top = search rules; draft = search rules }

@@ -1,6 +1,4 @@
-use Rattle.std.proofs.Common.{◌≤◌, ◌+◌, ◌++◌, length, take, refl, sym, ◌∙◌, subst, arith}
-use Rattle.lrup_text.specs.Lines.{LineText}
-use Rattle.lrup_text.specs.internal.Reading.{line_so_far}
+use Rattle.std.proofs.Common.{◌≤◌, ◌+◌, length, refl, sym, ◌∙◌, arith}
 use Rattle.lrup_text.proofs.Readers.{is_empty}
 use Rattle.lrup_text.proofs.partial_line.PartialLine.read_at_once.Goals as goal
 
@@ -12,8 +10,7 @@ returns-then-read_whole-clause-whole c =
       inside,
       whole.reads,
       whole.empty,
-      subst (λ t. LineText (line_so_far c.read_whole.new.self) (t ++ take (c.in_ok-used.field-0 + 1) c.args.piece.now))
-          (sym (is_empty c.args.self.now c.in-Start.is)) (whole.line refl),
+      rw (is_empty c.args.self.now c.in-Start.is) (whole.line refl),
     )
 
 pub returns-else-read_whole-clause-same : goal.returns-else-read_whole-clause-same

@@ -1,12 +1,10 @@
-use Rattle.std.proofs.Common.{arith, subst, sym}
-use Rattle.lrup_text.specs.declared.partial_line.ParserState.TheVariants as states
-use Rattle.lrup_text.proofs.Bytes.{GoesOn, minus_goes_on, minus_spelling}
+use Rattle.std.proofs.Common.{arith}
+use Rattle.lrup_text.proofs.Bytes.{minus_goes_on, minus_spelling}
 use Rattle.lrup_text.proofs.partial_line.PartialLine.step_after_minus.Goals as goal
 
 pub returns-in-49-to-57 : goal.returns-in-49-to-57
 returns-in-49-to-57 c =
-    subst (λ s. GoesOn c.args.self.now c.args.byte (record s { state = states.Literal })) (sym c.begin_number.ensures)
-    (minus_goes_on c.args.self.now c.args.byte c.requires.reads c.requires.state (omega arith) (omega arith))
+    rw c.begin_number.ensures (minus_goes_on c.args.self.now c.args.byte c.requires.reads c.requires.state (omega arith) (omega arith))
 
 pub returns-in_default : goal.returns-in_default
 returns-in_default c = minus_spelling c.args.self.now c.args.byte c.requires.reads c.requires.state (λ low high. omega arith)

@@ -1,5 +1,4 @@
 use Rattle.std.proofs.Common.{◌+◌, ◌∷◌, [], ◌++◌, take, drop, sym, ◌∙◌, ap}
-use Rattle.std.specs.List.{flat_map}
 use Rattle.lrup_text.specs.Writing.{space}
 use Rattle.lrup_text.specs.internal.Reading.{words_text}
 use Rattle.lrup_text.specs.lemmas.WritingLemmas.{puts_nothing, puts_next, breaks_next, at_err, texts_more, texts_split}

@@ -1,10 +1,9 @@
-use Rattle.std.proofs.Common.{◌≡◌, ◌<◌, ◌≤◌, ◌∙◌, ℕ, nat_abs, true, false, length, inl, inr, refl, sym, ap, subst, arith, rules, Ok, Err}
-use Rattle.std.proofs.Common.{Result}
+use Rattle.std.proofs.Common.{◌≡◌, ◌<◌, ◌≤◌, ◌∙◌, nat_abs, true, false, length, inl, inr, refl, sym, ap, arith, rules, Ok, Err, Result}
 use Rattle.std.specs.Result.{OnOk, is_err}
 use Rattle.std.specs.List.{AllByRecursion}
 use Rattle.std.proofs.lemmas.Bool.{true≢false}
 use Rattle.lrup_model.specs.Literal.{IsLiteral}
-use Rattle.lrup_model.specs.Clause.{Clause, IsClause, IsTautology}
+use Rattle.lrup_model.specs.Clause.{IsTautology}
 use Rattle.lrup_model.specs.Layout.{Owns}
 use Rattle.lrup_model.specs.Distinct.{distinct}
 use Rattle.propagate.specs.Marks.{Propagation}
@@ -33,8 +32,7 @@ returns-then-not-make_literals-clause-admitted g c =
     let above : c.args.state.now.last < c.args.id = omega arith in
     let no : AllByRecursion (λ l. nat_abs l ≤ s.layout.vars) c.args.lits.now
     → ⊥ = λ all. true≢false (sym (c.if-not-make_literals.ensures.within.1
-    (subst (λ (n : ℕ). AllByRecursion (IsLiteral n) c.args.lits.now) c.requires.variables
-    (literals_within s.layout.vars c.args.lits.now c.requires.nonzero all)))) in
+    (rw c.requires.variables at (literals_within s.layout.vars c.args.lits.now c.requires.nonzero all)))) in
     inr ((owns, above), inl (no, refl, refl))
 
 -- what a result that isn't an error promises
@@ -48,10 +46,9 @@ returns-then-is_err-clause-admitted g c =
     let s = c.args.state.now.params in
     let lits = c.args.lits.now in
     let owns = owned_by s p c.args.id c.requires.at (c.owns.ensures.0 c.if-not-owns.false) in
-    let within : AllByRecursion (IsLiteral s.layout.vars) lits =
-    subst (λ (n : ℕ). AllByRecursion (IsLiteral n) lits) (sym c.requires.variables) (c.if-not-make_literals.ensures.within.0 refl) in
+    let within : AllByRecursion (IsLiteral s.layout.vars) lits = rw c.requires.variables (c.if-not-make_literals.ensures.within.0 refl) in
     let read : c.deref.result.now ≡ lits = c.deref.ensures.value ∙ c.if-not-make_literals.ensures.literals in
-    let tautology : IsTautology lits = subst IsTautology read (c.begin.ensures.tautology.0 (sym c.if-is_err.ensures.value)) in
+    let tautology : IsTautology lits = rw read at (c.begin.ensures.tautology.0 (sym c.if-is_err.ensures.value)) in
     inr (
       (owns, omega (arith, c.if-id-last.false, c.last.ensures)),
       inr (variables_within s.layout.vars lits within, inl ((λ no. no tautology), refl, refl)),
@@ -63,11 +60,9 @@ returns-then-clause-room-clause-admitted g c =
     let s = c.args.state.now.params in
     let lits = c.args.lits.now in
     let owns = owned_by s p c.args.id c.requires.at (c.owns.ensures.0 c.if-not-owns.false) in
-    let within : AllByRecursion (IsLiteral s.layout.vars) lits =
-    subst (λ (n : ℕ). AllByRecursion (IsLiteral n) lits) (sym c.requires.variables) (c.if-not-make_literals.ensures.within.0 refl) in
+    let within : AllByRecursion (IsLiteral s.layout.vars) lits = rw c.requires.variables (c.if-not-make_literals.ensures.within.0 refl) in
     let read : c.deref.result.now ≡ lits = c.deref.ensures.value ∙ c.if-not-make_literals.ensures.literals in
-    let consistent : ¬ IsTautology lits =
-    λ t. true≢false (sym (c.begin.ensures.tautology.1 (subst IsTautology (sym read) t)) ∙ sym c.if-is_err.ensures.value) in
+    let consistent : ¬ IsTautology lits = λ t. true≢false (sym (c.begin.ensures.tautology.1 (rw read t)) ∙ sym c.if-is_err.ensures.value) in
     let begun = on_ok c.begin.result _ c.if-is_err.ensures.value c.begin.ensures.ok in
     let clause : c.clause.result.now ≡ distinct lits = c.clause.ensures ∙ ap (λ (m : Propagation). m.clause) begun ∙ ap distinct read in
     let no : length (distinct lits) ≤ p.room → ⊥ = λ fits. omega (arith, fits, ap length clause, c.room.ensures, c.if-clause-room.true) in
@@ -82,29 +77,21 @@ returns-clause-admitted g c =
     let s = c.args.state.now.params in
     let lits = c.args.lits.now in
     let owns = owned_by s p c.args.id c.requires.at (c.owns.ensures.0 c.if-not-owns.false) in
-    let within : AllByRecursion (IsLiteral s.layout.vars) lits =
-    subst (λ (n : ℕ). AllByRecursion (IsLiteral n) lits) (sym c.requires.variables) (c.if-not-make_literals.ensures.within.0 refl) in
+    let within : AllByRecursion (IsLiteral s.layout.vars) lits = rw c.requires.variables (c.if-not-make_literals.ensures.within.0 refl) in
     let read : c.deref.result.now ≡ lits = c.deref.ensures.value ∙ c.if-not-make_literals.ensures.literals in
-    let consistent : ¬ IsTautology lits =
-    λ t. true≢false (sym (c.begin.ensures.tautology.1 (subst IsTautology (sym read) t)) ∙ sym c.if-is_err.ensures.value) in
+    let consistent : ¬ IsTautology lits = λ t. true≢false (sym (c.begin.ensures.tautology.1 (rw read t)) ∙ sym c.if-is_err.ensures.value) in
     let begun = on_ok c.begin.result _ c.if-is_err.ensures.value c.begin.ensures.ok in
     let clause : c.clause.result.now ≡ distinct lits = c.clause.ensures ∙ ap (λ (m : Propagation). m.clause) begun ∙ ap distinct read in
     let fits : length (distinct lits) ≤ p.room = omega (arith, ap length clause, c.room.ensures, c.if-clause-room.false) in
     let same : c.begin.new.self.clause ≡ distinct lits = ap (λ (m : Propagation). m.clause) begun ∙ ap distinct read in
     let vars : c.args.self.now.marks.vars ≡ s.layout.vars = sym (c.requires.variables ∙ c.args.self.now.same_variables) in
-    let is_clause : IsClause s.layout.vars (distinct lits) =
-    subst (λ (d : Clause). IsClause s.layout.vars d) same (subst (λ (n : ℕ). IsClause n c.begin.new.self.clause) vars
-    (on_ok c.begin.result _ c.if-is_err.ensures.value c.begin.ensures.clause)) in
-    let marks = begun
-    ∙ ap (λ (n : ℕ). record { vars = n; clause = distinct c.deref.result.now; falses = distinct c.deref.result.now; ready = true }) vars
-    ∙ ap (λ (d : Clause). record { vars = s.layout.vars; clause = distinct d; falses = distinct d; ready = true }) read in
+    let is_clause = rw (vars, same) at (on_ok c.begin.result _ c.if-is_err.ensures.value c.begin.ensures.clause) in
     record {
       owns = owns;
       above = omega (arith, c.if-id-last.false, c.last.ensures);
       literals = variables_within s.layout.vars lits within;
       fits = fits;
       clause = is_clause;
-      consistent =
-          subst (λ (d : Clause). ¬ IsTautology d) same (on_ok c.begin.result _ c.if-is_err.ensures.value c.begin.ensures.consistent);
-      marks_are = marks;
+      consistent = rw same at (on_ok c.begin.result _ c.if-is_err.ensures.value c.begin.ensures.consistent);
+      marks_are = rw (vars, read) at begun;
     }

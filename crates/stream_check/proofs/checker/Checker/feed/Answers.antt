@@ -1,9 +1,7 @@
 use Rattle.std.proofs.Common.{◌≡◌, ◌∙◌, ℕ, List, [], ◌∷◌, ◌++◌, None, Some, Ok, inl, inr, refl, sym, ap, subst, take, arith, append-nil}
 use Rattle.std.proofs.lemmas.List.{take_all}
-use Rattle.lrup_text.specs.Feeding.{ReaderState, Feeds, ReaderReaches}
-use Rattle.lrup_text.specs.Faults.{IsRefused}
-use Rattle.lrup_text.specs.Lines.{IsPending, Cut, LineText, line_of}
-use Rattle.lrup_text.specs.declared.reader.ReaderStatus.{ReaderStatus}
+use Rattle.lrup_text.specs.Feeding.{Feeds, ReaderReaches}
+use Rattle.lrup_text.specs.Lines.{IsPending, LineText, line_of}
 use Rattle.lrup_text.specs.declared.reader.ReaderStatus.TheVariants as statuses
 use Rattle.stream_check.specs.declared.fault.Fault.TheVariants as faults
 use Rattle.stream_check.specs.declared.report.Ending.{Ending}
@@ -36,25 +34,20 @@ returns-then-is_some-clause-status g c =
 pub returns-in-NeedMore-clause-left : goal.returns-in-NeedMore-clause-left
 returns-in-NeedMore-clause-left g c =
     let p = g.M.ClauseMap.caller_view c.args.map.now in
-    let h = c.self.inside.state in
     let r = c.self.inside.reader in
     let new = c.feed-fed.follows.lender-at-none in
     let read = read_of r in
-    let piece = c.args.piece.now in
     let used = c.feed-fed.result.used in
     let none = none_of c.self.inside.ending (sym c.is_some.ensures ∙ c.if-is_some.false) in
     let reads : r ≡ Ok read = c.self.invariant.reads none in
-    let gives : Feeds (Ok read) piece used statuses.NeedMore = subst (λ (s : ReaderState). Feeds s piece used statuses.NeedMore) reads
-    (subst (λ (t : ReaderStatus). Feeds r piece used t) c.in-NeedMore.is c.feed-fed.ensures.gives) in
-    let reaches : ReaderReaches (Ok read) piece statuses.NeedMore new = subst
-    (λ (s : ReaderState). ReaderReaches s piece statuses.NeedMore new)
-    reads (subst (λ (t : ReaderStatus). ReaderReaches r piece t new) c.in-NeedMore.is c.feed-fed.follows.holds-at-none) in
-    let left = feeds_more h read new piece used p.room c.self.inside.ending none reaches.0 gives reaches.1 in (
+    let gives = rw (c.in-NeedMore.is, reads) at c.feed-fed.ensures.gives in
+    let reaches = rw (c.in-NeedMore.is, reads) at c.feed-fed.follows.holds-at-none in
+    let left = feeds_more c.self.inside.state read new c.args.piece.now used p.room c.self.inside.ending none reaches.0 gives reaches.1 in (
       [],
       g.met.M.ClauseMap.moves_none c.args.map.now,
       refl,
-      subst (λ (v : CheckerValue). Extends v.params (checker_state v p.room) (take used piece) []
-          (checker_state (value_of h (read_of new) c.self.inside.ending) p.room)) c.self.view_is left,
+      subst (λ (v : CheckerValue). Extends v.params (checker_state v p.room) (take c.feed-fed.result.used c.args.piece.now) []
+          (checker_state (value_of c.self.inside.state (read_of new) c.self.inside.ending) p.room)) c.self.view_is left,
     )
 
 pub returns-in-NeedMore-clause-status : goal.returns-in-NeedMore-clause-status
@@ -66,20 +59,16 @@ returns-in-NeedMore-clause-status g c =
     let used = c.feed-fed.result.used in
     let none = none_of c.self.inside.ending (sym c.is_some.ensures ∙ c.if-is_some.false) in
     let reads : r ≡ Ok read = c.self.invariant.reads none in
-    let gives : Feeds (Ok read) piece used statuses.NeedMore = subst (λ (s : ReaderState). Feeds s piece used statuses.NeedMore) reads
-    (subst (λ (t : ReaderStatus). Feeds r piece used t) c.in-NeedMore.is c.feed-fed.ensures.gives) in
-    let reaches : ReaderReaches (Ok read) piece statuses.NeedMore new = subst
-    (λ (s : ReaderState). ReaderReaches s piece statuses.NeedMore new)
-    reads (subst (λ (t : ReaderStatus). ReaderReaches r piece t new) c.in-NeedMore.is c.feed-fed.follows.holds-at-none) in
+    let gives : Feeds (Ok read) piece used statuses.NeedMore = rw (c.in-NeedMore.is, reads) at c.feed-fed.ensures.gives in
+    let reaches : ReaderReaches (Ok read) piece statuses.NeedMore new = rw (c.in-NeedMore.is, reads) at c.feed-fed.follows.holds-at-none in
     let all : take used piece ≡ piece = take_all used piece (omega (arith, gives)) in
     let here : read ≡ c.args.self.now.pending = ap (λ (v : CheckerValue). v.pending) c.self.view_is in
     let after : read_of new ≡ c.args.self.now.pending ++ piece = ap read_of reaches.0 ∙ ap (λ (b : List ℕ). b ++ piece) here in
-    let front : IsPending (c.args.self.now.pending ++ piece) = subst (λ (b : List ℕ). IsPending (b ++ piece)) here reaches.1 in (
+    let front : IsPending (c.args.self.now.pending ++ piece) = rw here at reaches.1 in (
       none,
       all,
       after,
-      λ bytes lines cut. subst (λ (more : List ℕ). Cut (bytes ++ more) lines (read_of new)) (sym all)
-          (subst (Cut (bytes ++ piece) lines) (sym after) (front_cut bytes c.args.self.now.pending piece lines front cut)),
+      λ bytes lines cut. rw (all, after) (front_cut bytes c.args.self.now.pending piece lines front cut),
     )
 
 pub returns-in-Ok-clause-left : goal.returns-in-Ok-clause-left
@@ -88,22 +77,18 @@ returns-in-Ok-clause-left g c =
     let q = g.M.ClauseMap.caller_view c.take_line.new.map in
     let h = c.self.inside.state in
     let n = c.take_line.new.state in
-    let r = c.self.inside.reader in
     let new = c.feed-fed.follows.lender-at-none in
-    let read = read_of r in
+    let read = read_of c.self.inside.reader in
     let piece = c.args.piece.now in
     let used = c.feed-fed.result.used in
-    let line = c.in-Line.line in
     let none = none_of c.self.inside.ending (sym c.is_some.ensures ∙ c.if-is_some.false) in
-    let gives : Feeds (Ok read) piece used (statuses.Line line) = subst (λ (s : ReaderState). Feeds s piece used (statuses.Line line))
-    (c.self.invariant.reads none) (subst (λ (t : ReaderStatus). Feeds r piece used t) c.in-Line.is c.feed-fed.ensures.gives) in
-    let reaches : ReaderReaches r piece (statuses.Line line) new =
-    subst (λ (t : ReaderStatus). ReaderReaches r piece t new) c.in-Line.is c.feed-fed.follows.holds-at-none in
+    let gives = rw (c.in-Line.is, c.self.invariant.reads none) at c.feed-fed.ensures.gives in
+    let reaches = rw c.in-Line.is at c.feed-fed.follows.holds-at-none in
     let taken = c.in-Ok.ensures.taken in
     let left = feeds_line h n read new (take used piece) (taken.0 ∷ []) p.room q.room c.self.inside.ending none reaches.0
-    (reaches_good c.good_line_taken.ensures h n p.room q.room read (take used piece) (line_of line) taken.0 gives.2 taken.2) in (
+    (reaches_good c.good_line_taken.ensures h n p.room q.room read (take used piece) (line_of c.in-Line.line) taken.0 gives.2 taken.2) in (
       taken.0 ∷ [],
-      subst (g.M.ClauseMap.moves c.args.map.now c.take_line.new.map) (sym (append-nil taken.0)) taken.1,
+      rw (append-nil taken.0) taken.1,
       refl,
       subst (λ (v : CheckerValue). Extends v.params (checker_state v p.room) (take used piece) (taken.0 ∷ [])
           (checker_state (value_of n (read_of new) c.self.inside.ending) q.room)) c.self.view_is left,
@@ -111,20 +96,14 @@ returns-in-Ok-clause-left g c =
 
 pub returns-in-Ok-clause-status : goal.returns-in-Ok-clause-status
 returns-in-Ok-clause-status g c =
-    let r = c.self.inside.reader in
-    let new = c.feed-fed.follows.lender-at-none in
     let piece = c.args.piece.now in
     let used = c.feed-fed.result.used in
     let line = c.in-Line.line in
     let none = none_of c.self.inside.ending (sym c.is_some.ensures ∙ c.if-is_some.false) in
-    let gives : Feeds (Ok (read_of r)) piece used (statuses.Line line) = subst
-    (λ (s : ReaderState). Feeds s piece used (statuses.Line line))
-    (c.self.invariant.reads none) (subst (λ (t : ReaderStatus). Feeds r piece used t) c.in-Line.is c.feed-fed.ensures.gives) in
-    let reaches : ReaderReaches r piece (statuses.Line line) new =
-    subst (λ (t : ReaderStatus). ReaderReaches r piece t new) c.in-Line.is c.feed-fed.follows.holds-at-none in
+    let gives = rw (c.in-Line.is, c.self.invariant.reads none) at c.feed-fed.ensures.gives in
+    let reaches = rw c.in-Line.is at c.feed-fed.follows.holds-at-none in
     let text : LineText (line_of line) (c.args.self.now.pending ++ take used piece) =
-    subst (λ (b : List ℕ). LineText (line_of line) (b ++ take used piece))
-    (ap (λ (v : CheckerValue). v.pending) c.self.view_is) gives.2 in (
+    rw (ap (λ (v : CheckerValue). v.pending) c.self.view_is) at gives.2 in (
       none,
       ap read_of reaches.0,
       λ bytes lines cut. (line_of line, line_cut bytes c.args.self.now.pending (take used piece) lines (line_of line) text cut),
@@ -136,26 +115,23 @@ returns-in-Err-clause-left g c =
     let q = g.M.ClauseMap.caller_view c.take_line.new.map in
     let h = c.self.inside.state in
     let n = c.take_line.new.state in
-    let r = c.self.inside.reader in
-    let read = read_of r in
+    let read = read_of c.self.inside.reader in
     let piece = c.args.piece.now in
     let used = c.feed-fed.result.used in
-    let line = c.in-Line.line in
     let none = none_of c.self.inside.ending (sym c.is_some.ensures ∙ c.if-is_some.false) in
-    let gives : Feeds (Ok read) piece used (statuses.Line line) = subst (λ (s : ReaderState). Feeds s piece used (statuses.Line line))
-    (c.self.invariant.reads none) (subst (λ (t : ReaderStatus). Feeds r piece used t) c.in-Line.is c.feed-fed.ensures.gives) in
+    let gives = rw (c.in-Line.is, c.self.invariant.reads none) at c.feed-fed.ensures.gives in
     let taken = c.in-Err.ensures.taken in
     let stopped : Extends h.params (Going (hold h read p.room)) (take used piece) (taken.0 ∷ [])
     (Over (report_of_tally (tally_at n) c.ending.result) (is_among n.dropped.ids)) =
     subst (λ (e : Ending). Extends h.params (Going (hold h read p.room)) (take used piece) (taken.0 ∷ [])
     (Over (report_of_tally (tally_at n) e) (is_among n.dropped.ids)))
     (sym (c.ending.ensures ∙ ap (λ (k : ℕ). ending_of k c.in-Err.stop) c.line.ensures))
-    (reaches_stopped h n p.room q.room read (take used piece) (line_of line) taken.0 c.in-Err.stop gives.2 taken.2) in
+    (reaches_stopped h n p.room q.room read (take used piece) (line_of c.in-Line.line) taken.0 c.in-Err.stop gives.2 taken.2) in
     let left = feeds_finished h read (take used piece) (taken.0 ∷ []) p.room c.self.inside.ending
     (report_of_tally (tally_at n) c.ending.result) (is_among n.dropped.ids) none stopped in
     rw c.notify_gate.ensures (
       taken.0 ∷ [],
-      subst (g.M.ClauseMap.moves c.args.map.now c.take_line.new.map) (sym (append-nil taken.0)) taken.1,
+      rw (append-nil taken.0) taken.1,
       omega arith,
       subst (λ (v : CheckerValue). Extends v.params (checker_state v p.room) (take used piece) (taken.0 ∷ [])
           (Over (report_of_tally (tally_at n) c.ending.result) (is_among n.dropped.ids))) c.self.view_is left,
@@ -163,31 +139,22 @@ returns-in-Err-clause-left g c =
 
 pub returns-in-Err-clause-status : goal.returns-in-Err-clause-status
 returns-in-Err-clause-status g c =
-    let r = c.self.inside.reader in
-    let piece = c.args.piece.now in
-    let used = c.feed-fed.result.used in
-    let line = c.in-Line.line in
     let none = none_of c.self.inside.ending (sym c.is_some.ensures ∙ c.if-is_some.false) in
-    let gives : Feeds (Ok (read_of r)) piece used (statuses.Line line) = subst
-    (λ (s : ReaderState). Feeds s piece used (statuses.Line line))
-    (c.self.invariant.reads none) (subst (λ (t : ReaderStatus). Feeds r piece used t) c.in-Line.is c.feed-fed.ensures.gives) in
-    let text : LineText (line_of line) (c.args.self.now.pending ++ take used piece) =
-    subst (λ (b : List ℕ). LineText (line_of line) (b ++ take used piece)) (ap (λ (v : CheckerValue). v.pending) c.self.view_is) gives.2 in
-    rw c.notify_gate.ensures (c.ending.result, refl, λ going. inl (line_of line, text))
+    let gives = rw (c.in-Line.is, c.self.invariant.reads none) at c.feed-fed.ensures.gives in
+    let text = rw (ap (λ (v : CheckerValue). v.pending) c.self.view_is) at gives.2 in
+    rw c.notify_gate.ensures (c.ending.result, refl, λ going. inl (line_of c.in-Line.line, text))
 
 pub returns-in-Fault-clause-left : goal.returns-in-Fault-clause-left
 returns-in-Fault-clause-left g c =
     let p = g.M.ClauseMap.caller_view c.args.map.now in
     let h = c.self.inside.state in
-    let r = c.self.inside.reader in
-    let read = read_of r in
+    let read = read_of c.self.inside.reader in
     let piece = c.args.piece.now in
     let used = c.feed-fed.result.used in
     let fault = c.in-Fault.fault in
     let report = report_of_tally (tally_at h) (endings.Bad c.line-in-Fault.result (faults.Text fault)) in
     let none = none_of c.self.inside.ending (sym c.is_some.ensures ∙ c.if-is_some.false) in
-    let gives : Feeds (Ok read) piece used (statuses.Fault fault) = subst (λ (s : ReaderState). Feeds s piece used (statuses.Fault fault))
-    (c.self.invariant.reads none) (subst (λ (t : ReaderStatus). Feeds r piece used t) c.in-Fault.is c.feed-fed.ensures.gives) in
+    let gives = rw (c.in-Fault.is, c.self.invariant.reads none) at c.feed-fed.ensures.gives in
     let left = feeds_finished h read (take used piece) [] p.room c.self.inside.ending report (is_among h.dropped.ids) none
     (subst (λ (n : ℕ). Extends h.params (Going (hold h read p.room)) (take used piece) []
     (Over (report_of_tally (tally_at h) (endings.Bad n (faults.Text fault))) (is_among h.dropped.ids))) (sym c.line-in-Fault.ensures)
@@ -202,16 +169,9 @@ returns-in-Fault-clause-left g c =
 
 pub returns-in-Fault-clause-status : goal.returns-in-Fault-clause-status
 returns-in-Fault-clause-status g c =
-    let h = c.self.inside.state in
-    let r = c.self.inside.reader in
-    let piece = c.args.piece.now in
-    let used = c.feed-fed.result.used in
     let fault = c.in-Fault.fault in
     let none = none_of c.self.inside.ending (sym c.is_some.ensures ∙ c.if-is_some.false) in
-    let gives : Feeds (Ok (read_of r)) piece used (statuses.Fault fault) = subst
-    (λ (s : ReaderState). Feeds s piece used (statuses.Fault fault))
-    (c.self.invariant.reads none) (subst (λ (t : ReaderStatus). Feeds r piece used t) c.in-Fault.is c.feed-fed.ensures.gives) in
-    let text : IsRefused (c.args.self.now.pending ++ take used piece) fault =
-    subst (λ (b : List ℕ). IsRefused (b ++ take used piece) fault) (ap (λ (v : CheckerValue). v.pending) c.self.view_is) gives.2 in
+    let gives = rw (c.in-Fault.is, c.self.invariant.reads none) at c.feed-fed.ensures.gives in
+    let text = rw (ap (λ (v : CheckerValue). v.pending) c.self.view_is) at gives.2 in
     rw c.notify_gate-in-Fault.ensures
     (endings.Bad c.line-in-Fault.result (faults.Text fault), refl, λ going. inr (c.line-in-Fault.result, fault, refl, text))
