@@ -5,7 +5,8 @@
 
 CaDiCaL writes a proof of each formula, which is then checked with each number of filters in turn,
 on the same cores. The shortest time by the clock counts, and the least processor time. The last
-column compares the last number of filters with CaDiCaL's own time by the clock."""
+column compares the last number of filters with CaDiCaL's own time by the clock. The last row has
+the averages of ratios."""
 import argparse
 import resource
 import subprocess
@@ -59,6 +60,7 @@ def main() -> None:
     print("| Formula | Proof, MB | CaDiCaL, s |" + "".join(f" {count}, s |" for count in filters)
           + "".join(f" {count} to {filters[0]} |" for count in filters[1:])
           + " processor | to CaDiCaL |\n" + "|---" * (2 * len(filters) + 4) + "|")
+    rows: List[List[float]] = []
     for words in given.formulas.split(","):
         with tempfile.TemporaryDirectory() as folder:
             formula, proof, solving = proof_of(words, Path(folder))
@@ -71,11 +73,13 @@ def main() -> None:
                     clock[count] = min(clock.get(count, seconds), seconds)
                     used[count] = min(used.get(count, processor), processor)
             first, last = filters[0], filters[-1]
+            rows.append([clock[count] / clock[first] for count in filters[1:]]
+                        + [used[last] / used[first], clock[last] / solving])
             print(f"| {words} | {proof.stat().st_size / 1e6:.0f} | {solving:.1f} |"
                   + "".join(f" {clock[count]:.1f} |" for count in filters)
-                  + "".join(f" {clock[count] / clock[first]:.2f} |" for count in filters[1:])
-                  + f" {used[last] / used[first]:.2f} | {clock[last] / solving:.2f} |",
-                  flush=True)
+                  + "".join(f" {ratio:.2f} |" for ratio in rows[-1]), flush=True)
+    print("| average | | |" + " |" * len(filters)
+          + "".join(f" {sum(ratios) / len(rows):.3f} |" for ratios in zip(*rows)))
 
 
 if __name__ == "__main__":

@@ -15,6 +15,10 @@ const uint64_t SHORT_STREAMS = UINT64_C(1) << 20;  // bytes in all streams befor
 const uint64_t ALL_FED = UINT64_MAX / 2;  // more bytes than a stream has, so no filter waits
 const double CROWDED = 0.75;              // how much of the largest row the live clauses may take
 
+// Filters that share a proof end a round together, and then wait until lrupd has saved it. So their
+// first row is larger than usual.
+const uint64_t LARGER_FIRST_ROW = 4;
+
 std::string in_a_row_of(uint64_t words) { return " in a row of " + counted(8 * words, "byte"); }
 
 // Counts each literal of a clause once, as a row does.
@@ -59,6 +63,7 @@ void Rounds::begin(const std::string &program) {
     saver.saved = last > 0 ? number : 0;
     checker_program = program;
     rows_open(&rows, inputs.options.memory, inputs.options.most_memory, teams.size());
+    if (teams.has_windows()) rows.words *= LARGER_FIRST_ROW;
     Row row = last > 0 ? inputs.saved.row(last) : Row{ 0, 0 };
     if (last > 0)
         rows.words = std::max(rows.words, inputs.saved.streams(last) * (row.lines + row.room));
