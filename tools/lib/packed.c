@@ -50,7 +50,7 @@ int unpacking_open(Unpacking *unpacking, const char *path) {
     if (file < 0 || packer_of(path) == NULL) return file;
     if (pipe2(ends, O_CLOEXEC) != 0) fail_file(path, strerror(errno));
     unpacking_start(unpacking, path, file, ends[1]);
-    close(ends[1]);
+    if (close(ends[1]) != 0) fail_file(path, strerror(errno));  // or reading it never ends
     return ends[0];
 }
 

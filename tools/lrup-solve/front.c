@@ -307,7 +307,7 @@ static int unpacked(int file, const char *path, const char *program) {
         if (dup2(file, 0) == 0 && dup2(ends[1], 1) == 1) execv(found, (char **)words);
         _exit(127);
     }
-    close(ends[1]);
+    if (close(ends[1]) != 0) err(1, "cannot close a pipe");  // or reading it never ends
     int copy = copied(ends[0], path);
     bool is_right = waitpid(child, &status, 0) == child && status == 0;
     if (!is_right) errx(1, "%s: %s can't unpack it", shown(path), program);  // trusted (unpacked)
