@@ -123,6 +123,22 @@ def test_targets_with_a_script_for_rt(tested: Dict[str, str], false_rt: Path, ta
     want_whole(tree, tested)
 
 
+def test_what_make_build_proves_again(tested: Dict[str, str], false_rt: Path,
+                                      tmp_path: Path) -> None:
+    """Nothing after a change of a test crate's line, and all after one of a program's source."""
+    tree = copied(tmp_path, is_proved=False)
+    want_made(tree, false_rt, ["build"])
+    only_version = executable('[ "$*" = version ] && echo "rattle-kit logic"', tmp_path, "version")
+    lines = (tree / "crates.txt").read_text()
+    assert "\ncommand_tests: " in lines
+    written(lines.replace("\ncommand_tests: ", "\ncommand_tests: judge "), tree, "crates.txt")
+    want_made(tree, only_version, ["build"])
+    with (tree / "crates/lrupd/src/main.rt").open("a") as source:
+        source.write("// A comment.\n")
+    assert in_tree(tree, only_version, "build").status == 2
+    want_whole(tree, tested)
+
+
 def test_a_gate_that_fails(tested: Dict[str, str], false_rt: Path, tmp_path: Path) -> None:
     """The programs are there afterwards, and can be installed without rt."""
     tree = copied(tmp_path, is_proved=False)

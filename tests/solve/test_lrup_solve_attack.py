@@ -153,7 +153,7 @@ def run_of(attack: Attack) -> Ended:
     work, signals = attack.work, []
     for fifo, data in attack.fifos:
         feed(fifo, [data])
-    given = attack.stdin
+    given, names = attack.stdin, unpackers(attack)
     stdin = os.open("/dev/null", os.O_RDONLY) if given is None else fed(given)
     out_path = Path("/dev/full" if attack.out == "full" else work / "out")
     with limited(work) as group, open(out_path, "wb") as out, open(work / "said", "wb") as said:
@@ -174,7 +174,6 @@ def run_of(attack: Attack) -> Ended:
             if front.poll() is None:
                 signals += send(attack, group)
         try:
-            names = unpackers(attack)
             until("the run ends", lambda: has_ended(front, group, names), LIMIT)
             if not may_leave(attack, signals):
                 until("all processes end", lambda: has_none_left(group), SOON)

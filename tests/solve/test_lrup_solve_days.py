@@ -15,6 +15,7 @@ import contextlib
 import functools
 import os
 import random
+import re
 import shutil
 import signal
 import subprocess
@@ -71,6 +72,13 @@ KINDS = {"pigeons": of_pigeons, "fewer pigeons": of_fewer, "parity": of_parity, 
 
 
 # Runs, and the processes that are killed.
+
+
+def has_begun_nothing(answer: Answer) -> bool:
+    """Whether all engines were killed before their first lines: then the run says that none could
+    run."""
+    return re.search(r"^lrup-solve: nothing could run: the \w+ ended by a signal: ", answer.said,
+                     re.M) is not None
 
 
 class Chain:
@@ -152,7 +160,8 @@ class Chain:
             self.found(20)
             return True
         if not answer.answers or answer.answers == [UNKNOWN]:
-            assert answer.status in (0, -signal.SIGKILL), answer.out + answer.said
+            statuses = (1,) if has_begun_nothing(answer) else (0, -signal.SIGKILL)
+            assert answer.status in statuses, answer.out + answer.said
             return False
         status = {line: number for number, line in ANSWERS.items()}[answer.answers[0]]
         if answer.status == -signal.SIGKILL:        # the front had printed the answer by then
@@ -264,7 +273,8 @@ def with_little(chain: Chain, why: str, limited: Callable[[int], Callable[[], No
         kilobytes = 100 * 3 ** min(count, 10)
         answer = chain.killed(1.5 if 0 < count < 5 else None, limited(kilobytes))
         text = answer.out + answer.said
-        is_refused = "lrup-solve: " in answer.said and not answer.said.endswith(" checks it\n")
+        is_refused = ("lrup-solve: " in answer.said and not has_begun_nothing(answer)
+                      and not answer.said.endswith(" checks it\n"))
         if count == 0 or is_refused:
             assert "cannot write " in text
             assert why in text

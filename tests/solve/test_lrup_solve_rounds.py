@@ -20,7 +20,7 @@ from typing import Dict, List, Mapping, Sequence
 import pytest
 
 from harness import (LIMIT, LRUP_RECHECK, PROGRAM, Ran, dimacs, example, generated, link_over,
-                     named, output_of, random_clauses, run, until, written)
+                     named, output_of, random_clauses, run, sanitizing_with, until, written)
 from solving import (EARLY, Answer, Run, check_again, children_of, end_group, in_place_of_lrupd,
                      is_alive, kill_children, of_process, random_formula, rests_on, says, sleep,
                      solve, want_answer, want_cause)
@@ -240,7 +240,7 @@ class Running(Run):
         (work / "folder").mkdir(exist_ok=True)
         super().__init__(words, {"SLICE": 5000 if pause else 40, "SAME_WORDS": 1, **tested},
                          work / "folder",
-                         {"ASAN_OPTIONS": "quarantine_size_mb=1"})   # or freed memory is kept
+                         sanitizing_with("quarantine_size_mb=1"))    # or freed memory is kept
         self.next = 0       # the round that follows the pause
 
     def get_ready(self) -> None:

@@ -20,8 +20,8 @@ import termios
 import threading
 import time
 from pathlib import Path
-from typing import (IO, Any, Callable, Iterable, Iterator, List, Mapping, NamedTuple, NoReturn,
-                    Optional, Sequence, Tuple, Union)
+from typing import (IO, Any, Callable, Dict, Iterable, Iterator, List, Mapping, NamedTuple,
+                    NoReturn, Optional, Sequence, Tuple, Union)
 
 import pytest
 
@@ -337,6 +337,12 @@ SANITIZE = ["-std=c11", "-O1", "-g", "-fsanitize=address,undefined,pointer-overf
             "-fno-sanitize-recover=all"]
 # The environment of sanitized programs.
 SANITIZING = {"ASAN_OPTIONS": "exitcode=99", "UBSAN_OPTIONS": "exitcode=99:print_stacktrace=1"}
+
+
+def sanitizing_with(option: str) -> Dict[str, str]:
+    """Variables in which sanitizers also have this option."""
+    names = ("ASAN_OPTIONS", "TSAN_OPTIONS", "UBSAN_OPTIONS")
+    return {name: ":".join(filter(None, (os.environ.get(name), option))) for name in names}
 
 
 @functools.lru_cache(maxsize=None)

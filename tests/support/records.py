@@ -21,9 +21,13 @@ TRIES = 20
 
 
 def saved_rounds(kept: Path) -> int:
-    """The round with which a resumed run would begin; 1 if nothing is saved."""
-    found = (re.search(r"  checkpoint-(\d+)\.cnf\n$", (kept / "rounds.sha256").read_text())
-             if (kept / "rounds.sha256").exists() else None)
+    """The round with which a resumed run would begin; 1 if nothing is saved. A run that begins may
+    remove the list of the run before at any time."""
+    try:
+        listed = (kept / "rounds.sha256").read_text()
+    except FileNotFoundError:
+        return 1
+    found = re.search(r"  checkpoint-(\d+)\.cnf\n$", listed)
     return int(found[1]) if found else 1
 
 

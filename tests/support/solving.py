@@ -16,8 +16,8 @@ from typing import (Any, Callable, Dict, Iterator, List, Mapping, Optional, Sequ
                     TypeVar)
 
 from harness import (BUILDS, FLAGS, LIMIT, MODEL, OUT, PROGRAM, ROOT, USUAL_FLAGS, VERDICTS, Ran,
-                     alone, dimacs, executable, is_newer, lacking, random_clauses, run, started,
-                     until)
+                     alone, dimacs, executable, is_newer, lacking, random_clauses, run,
+                     sanitizing_with, started, until)
 from proof_forms import read_formula
 from refused import refusing
 
@@ -158,10 +158,12 @@ def rests_on(rule: str, found: str, most: int, formula: Callable[[int], Path],
              tested: Callable[[int], Mapping[str, object]]) -> None:
     """Without this rule of sharing, some run breaks, which depends on timing: up to `most` formulas
     are tried. With all rules, neither a run on that formula breaks, nor one on the first twelve.
-    Without the rule, a stream waits a second, not a minute, for a clause that never comes."""
+    Without the rule, a stream waits a second, not a minute, for a clause that never comes, and what
+    sanitizers report is no failure."""
     def answer(seed: int, more: Mapping[str, object]) -> Answer:
         return solve(["-v", "--memory", "64M", "--time", "40", "-j", "3", formula(seed)],
-                     tested={**tested(seed), **more})
+                     tested={**tested(seed), **more},
+                     env_more=sanitizing_with("log_path=stderr") if more else None)
 
     def has_broken(answer: Answer) -> bool:
         return any(re.search(found, line) for line in answer.comments)
