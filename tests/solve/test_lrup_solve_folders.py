@@ -1,5 +1,6 @@
 """lrup-solve's temporary folder, of which nothing is left, and the folders of the programs that it
 runs."""
+import contextlib
 import os
 import resource
 import shutil
@@ -34,8 +35,6 @@ def test_mode_of_tmpdir(mode: int, taken: bool, tmp_path: Path) -> None:
     assert os.listdir(files) == []
 
 
-# The run may end before its process is killed.
-@pytest.mark.flaky(reruns=2)
 @pytest.mark.parametrize("ends", [signal.SIGKILL, signal.SIGTERM])
 def test_another_folder_in_place(ends: signal.Signals, tmp_path: Path) -> None:
     """Another folder that has the temporary folder's name when the run ends isn't removed, nor is
@@ -46,11 +45,14 @@ def test_another_folder_in_place(ends: signal.Signals, tmp_path: Path) -> None:
                      env_more={"TMPDIR": str(files)}, stdout=subprocess.DEVNULL) as running:
         until_there("lrupd", running)
         engines, (folder,) = children_of(running.pid)["lrup-engines"], files.iterdir()
+        os.kill(engines, signal.SIGSTOP)    # or the run may end before it is killed
         moved = folder.rename(tmp_path / "moved")
         (moved / "a link").symlink_to(mine.parent)
         written("", moved / "folder", "file")
         written("mine", folder, "mine")
         os.kill(engines, ends)
+        with contextlib.suppress(ProcessLookupError):
+            os.kill(engines, signal.SIGCONT)
         running.wait(60)
     assert os.listdir(moved) == []
     assert (folder / "mine").read_text() == "mine"

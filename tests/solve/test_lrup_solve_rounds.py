@@ -268,13 +268,24 @@ class Running(Run):
         self.stop_lrupd()
         pid = self.children.get("lrupd", 0)
         until("lrupd stops", lambda: of_process(pid, "stat").rsplit(")", 1)[-1][1:2] in "TZ")
-        for number in self.rounds("sizes"):
+        numbers = self.rounds("sizes")
+        for number in numbers:
             with contextlib.suppress(KeyError, FileNotFoundError):      # others have removed it
                 if self.files("cnf")[number].stat().st_size == 0:
                     self.next = number
                     return True
+        if numbers:
             self.stop_lrupd(signal.SIGCONT)
         return False
+
+    def is_fed(self) -> bool:
+        """Whether lrup-engines has closed its pipes to lrupd, which can then save without it."""
+        opened = Path(f"/proc/{self.children['lrup-engines']}/fd")
+        try:
+            return not any(".stream-" in os.readlink(file) and file.is_fifo()
+                           for file in opened.iterdir())
+        except FileNotFoundError:       # it has just closed one
+            return False
 
     def stop_lrupd(self, number: int = signal.SIGSTOP) -> None:
         with contextlib.suppress(ProcessLookupError, KeyError):
@@ -396,6 +407,7 @@ def test_a_forged_checkpoint(tmp_path: Path) -> None:
     their clauses. lrupd doesn't read the replacement, so no verdict depends on it."""
     with Running(["-j", "2", generated("pigeons 11", tmp_path)], 1, tmp_path, True,
                  FIRST_WORDS=50000) as running:
+        until("all is fed", running.is_fed)
         os.kill(running.children["lrup-engines"], signal.SIGSTOP)
         running.go_on()
         saved = running.files("cnf")[running.next]
