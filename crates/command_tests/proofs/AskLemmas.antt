@@ -39,7 +39,7 @@ use Rattle.outcome_laws.specs.Outcomes.{layout_in}
 use Rattle.outcome_laws.specs.Valid.{AreValidAlone, AreValidInOrder, AskForValidRounds, IsAskedOf}
 use Rattle.outcome_laws.specs.Valid.{IsProvided, IsRefutedAlone, IsRefutedInOrder, RoundAsk}
 use Rattle.test_support.specs.Worked.{first, second, third, fourth, four, unit}
-use Rattle.test_support.specs.lemmas.WorkedLemmas.{empty_is_shown, four_is_cnf, unit_is_shown}
+use Rattle.test_support.specs.lemmas.WorkedLemmas.{empty_fits, empty_is_shown, four_is_cnf, unit_fits, unit_is_shown}
 use Rattle.command_tests.specs.ExactFiles.{ExactValue, text_or_none}
 use Rattle.command_tests.specs.Outcomes.{RefuteInRound2, line_of_round_2, line_of_round_1, five, four_text, two_rounds}
 use Rattle.command_tests.proofs.ExactLemmas.{assumed_stays, exact_effects, exact_view, opened_stays, saved_at, with_new}
@@ -114,14 +114,7 @@ unit_is_valid : IsValidProof four first_layout 1 (codes "5 2 0 1 2 0\n") (line_o
 unfolding digits
 unit_is_valid = record {
   text = refl;
-  fits = (
-    (
-      (omega arith, omega arith),
-      record { count = omega arith; each = ((omega arith, omega arith), tt) },
-      record { count = omega arith; each = ((omega arith, omega arith), ((omega arith, omega arith), tt)) },
-    ),
-    tt,
-  );
+  fits = (unit_fits 5 (omega arith, omega arith), tt);
   valid = (
     record {
       owns = refl;
@@ -140,14 +133,7 @@ empty_is_valid : IsValidProof five last_layout 1 (codes "6 0 5 3 4 0\n") (line_o
 unfolding digits
 empty_is_valid = record {
   text = refl;
-  fits = (
-    (
-      (omega arith, omega arith),
-      record { count = omega arith; each = tt },
-      record { count = omega arith; each = ((omega arith, omega arith), ((omega arith, omega arith), ((omega arith, omega arith), tt))) },
-    ),
-    tt,
-  );
+  fits = (empty_fits 6 (omega arith, omega arith), tt);
   valid = (
     record {
       owns = refl;

@@ -37,6 +37,7 @@ use Rattle.stream_check.specs.Streams.{Stream, observation_of, observations, str
 use Rattle.run_outcome.specs.Saving.{is_wanted}
 use Rattle.command.specs.Rounds.{HaveEnded}
 use Rattle.test_support.specs.Worked.{unit}
+use Rattle.test_support.specs.lemmas.WorkedLemmas.{unit_fits}
 use Rattle.command_tests.specs.Outcomes.{line_of_round_1}
 
 -- the events of a good addition of the unit clause: some fetches, and then it is published
@@ -48,14 +49,7 @@ pub unit_cut : EmptyPending → Cut (codes "5 2 0 1 2 0\n") (line_of_round_1 ∷
 unfolding digits
 unit_cut pending = record {
   bytes = refl;
-  each = (
-    (
-      (omega arith, omega arith),
-      record { count = omega arith; each = ((omega arith, omega arith), tt) },
-      record { count = omega arith; each = ((omega arith, omega arith), ((omega arith, omega arith), tt)) },
-    ),
-    tt,
-  );
+  each = (unit_fits 5 (omega arith, omega arith), tt);
   last = pending.whole;
 }
 

@@ -38,6 +38,7 @@ use Rattle.run_laws.specs.Groups.{one, AreIsolated, IsRun}
 use Rattle.run_laws.specs.lemmas.ReportLemmas.{only}
 use Rattle.run_laws.specs.GroupLaws.{ReadersClosed, MatchIsReading}
 use Rattle.test_support.specs.Worked.{four}
+use Rattle.test_support.specs.lemmas.WorkedLemmas.{unit_fits, empty_fits}
 use Rattle.portfolio_tests.specs.Alone.{first_bytes, usual, layout_of_two, two_terms, HasOrder, IsOnlyReport}
 
 -- The first stream
@@ -196,21 +197,7 @@ pub first_is_cut : Cut first_bytes (Addition 5 (pos 2 ∷ []) (1 ∷ 2 ∷ []) �
 unfolding digits
 first_is_cut = record {
   bytes = refl;
-  each = (
-    (
-      (omega arith, omega arith),
-      record { count = omega arith; each = ((omega arith, omega arith), tt) },
-      record { count = omega arith; each = ((omega arith, omega arith), ((omega arith, omega arith), tt)) },
-    ),
-    (
-      (
-        (omega arith, omega arith),
-        record { count = omega arith; each = tt },
-        record { count = omega arith; each = ((omega arith, omega arith), ((omega arith, omega arith), ((omega arith, omega arith), tt))) },
-      ),
-      tt,
-    ),
-  );
+  each = (unit_fits 5 (omega arith, omega arith), (empty_fits 7 (omega arith, omega arith), tt));
   last = none_in_nothing;
 }
 

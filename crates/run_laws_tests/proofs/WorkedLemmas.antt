@@ -15,7 +15,7 @@ use Rattle.lrup_model.specs.Layout.{Owns}
 use Rattle.lrup_model.specs.declared.layout.Owner.TheVariants as owners
 use Rattle.run_laws_tests.specs.Worked.{at_first, one_stream, two_streams, refutation, shared}
 use Rattle.test_support.specs.Worked.{four, first, second, third, fourth, unit}
-use Rattle.test_support.specs.lemmas.WorkedLemmas.{two_not_one, signs, unit_is_proper, swapped}
+use Rattle.test_support.specs.lemmas.WorkedLemmas.{two_not_one, signs, unit_is_proper, unit_fits, empty_fits, swapped}
 use Rattle.test_support.specs.lemmas.WorkedLemmas.{unit_is_shown, empty_is_shown, third_is_unit, fourth_is_conflict}
 
 -- The hints in reverse order
@@ -84,21 +84,7 @@ pub refutation_is_valid : IsValidProof four one_stream 1 (codes "5 2 0 1 2 0\n6 
 unfolding digits
 refutation_is_valid = record {
   text = refl;
-  fits = (
-    (
-      (omega arith, omega arith),
-      record { count = omega arith; each = ((omega arith, omega arith), tt) },
-      record { count = omega arith; each = ((omega arith, omega arith), ((omega arith, omega arith), tt)) },
-    ),
-    (
-      (
-        (omega arith, omega arith),
-        record { count = omega arith; each = tt },
-        record { count = omega arith; each = ((omega arith, omega arith), ((omega arith, omega arith), ((omega arith, omega arith), tt))) },
-      ),
-      tt,
-    ),
-  );
+  fits = (unit_fits 5 (omega arith, omega arith), (empty_fits 6 (omega arith, omega arith), tt));
   valid = (
     record {
       owns = refl;
@@ -142,22 +128,14 @@ unfolding digits
 no_empty_begins first empty [] more fits is some = omega (arith, some.2)
 no_empty_begins first empty (line ∷ []) more fits is some =
     let known = Addition 5 unit (1 ∷ 2 ∷ []) in
-    let same = first known line [] (flat_map line_text [] ++ more) (
-      (omega arith, omega arith),
-      record { count = omega arith; each = ((omega arith, omega arith), tt) },
-      record { count = omega arith; each = ((omega arith, omega arith), ((omega arith, omega arith), tt)) },
-    )
-    fits.0 (is ∙ append_assoc (line_text line) [] more) in
+    let same = first known line [] (flat_map line_text [] ++ more) (unit_fits 5 (omega arith, omega arith)) fits.0
+    (is ∙ append_assoc (line_text line) [] more) in
     let only : Any AddsEmpty (known ∷ []) = subst (λ (l : StreamLine). Any AddsEmpty (l ∷ [])) (sym same.0) some in
     adds_no_empty only.0 only.1 only.2 only.3 only.4
 no_empty_begins first empty (line ∷ other ∷ lines) more fits is some =
     let known = Addition 5 unit (1 ∷ 2 ∷ []) in
-    let same = first known line [] (flat_map line_text (other ∷ lines) ++ more) (
-      (omega arith, omega arith),
-      record { count = omega arith; each = ((omega arith, omega arith), tt) },
-      record { count = omega arith; each = ((omega arith, omega arith), ((omega arith, omega arith), tt)) },
-    )
-    fits.0 (is ∙ append_assoc (line_text line) (flat_map line_text (other ∷ lines)) more) in
+    let same = first known line [] (flat_map line_text (other ∷ lines) ++ more) (unit_fits 5 (omega arith, omega arith)) fits.0
+    (is ∙ append_assoc (line_text line) (flat_map line_text (other ∷ lines)) more) in
     empty.whole other (flat_map line_text lines ++ more) fits.1.0 (same.1 ∙ append_assoc (line_text other) (flat_map line_text lines) more)
 
 five_is_the_first_stream's : Owns two_streams 2 5 → ⊥
@@ -167,22 +145,11 @@ pub shared_is_valid : IsValidOrder four two_streams shared
 shared_is_valid = record {
   streams = ((omega arith, omega arith), ((omega arith, omega arith), ((omega arith, omega arith), ((omega arith, omega arith), tt))));
   fits = (
-    (
-      (omega arith, omega arith),
-      record { count = omega arith; each = ((omega arith, omega arith), tt) },
-      record { count = omega arith; each = ((omega arith, omega arith), ((omega arith, omega arith), tt)) },
-    ),
+    unit_fits 5 (omega arith, omega arith),
     (
       ((omega arith, omega arith), record { count = omega arith; each = ((omega arith, omega arith), tt) }),
       (
-        (
-          (omega arith, omega arith),
-          record { count = omega arith; each = tt },
-          record {
-            count = omega arith;
-            each = ((omega arith, omega arith), ((omega arith, omega arith), ((omega arith, omega arith), tt)));
-          },
-        ),
+        empty_fits 6 (omega arith, omega arith),
         (((omega arith, omega arith), record { count = omega arith; each = ((omega arith, omega arith), tt) }), tt),
       ),
     ),

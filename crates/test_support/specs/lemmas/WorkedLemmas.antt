@@ -1,9 +1,10 @@
--- Lemmas about the example formula and hints of it.
+-- Lemmas about the example formula, and about hints and lines for it.
 use Rattle.std.specs.Prelude.{◌↔◌, ◌≡◌, ℕ, ℤ, pos, negsuc, neg_ℤ, nat_abs, [], ◌∷◌}
 use Rattle.std.proofs.Common.{refl, sym, ap, ◌∙◌, inl, inr, arith}
 use Rattle.lrup_model.specs.Clause.{Has, IsTautology}
 use Rattle.lrup_model.specs.Formula.{IsCnf}
 use Rattle.lrup_model.specs.Propagation.{Accepts, IsConflict, IsUnit}
+use Rattle.lrup_text.specs.Lines.{Addition, IsStreamNumber, IsWithinLimits}
 use Rattle.test_support.specs.Worked.{first, second, third, fourth, four, unit}
 
 pub two_not_one : pos 2 ≡ pos 1 → ⊥
@@ -70,6 +71,22 @@ fourth_is_conflict = swapped (negsuc 0) (negsuc 1)
 
 pub empty_is_shown : Accepts [] (unit ∷ third ∷ fourth ∷ [])
 empty_is_shown = ((λ t. t.1), (pos 2, unit_is_unit, (pos 1, third_is_unit, fourth_is_conflict)))
+
+-- Lines
+
+pub unit_fits : (id : ℕ) → IsStreamNumber id → IsWithinLimits (Addition id unit (1 ∷ 2 ∷ []))
+unit_fits id is = (
+  is,
+  record { count = omega arith; each = ((omega arith, omega arith), tt) },
+  record { count = omega arith; each = ((omega arith, omega arith), ((omega arith, omega arith), tt)) },
+)
+
+pub empty_fits : (id : ℕ) → IsStreamNumber id → IsWithinLimits (Addition id [] (5 ∷ 3 ∷ 4 ∷ []))
+empty_fits id is = (
+  is,
+  record { count = omega arith; each = tt },
+  record { count = omega arith; each = ((omega arith, omega arith), ((omega arith, omega arith), ((omega arith, omega arith), tt))) },
+)
 
 -- The formula
 

@@ -1,6 +1,6 @@
 use Rattle.std.proofs.Common.{[], ◌∷◌, refl, arith}
 use Rattle.run_laws_tests.proofs.WorkedLemmas.{negated_is_shown}
-use Rattle.test_support.specs.lemmas.WorkedLemmas.{unit_is_shown, empty_is_shown}
+use Rattle.test_support.specs.lemmas.WorkedLemmas.{unit_is_shown, unit_fits, empty_is_shown, empty_fits}
 use Rattle.run_laws_tests.proofs.worked.streams_leave_one_another_alone.Goals as goal
 use Rattle.test_support.specs.Worked.{first, second, third, fourth, unit}
 
@@ -14,24 +14,10 @@ returns c = record {
       record { count = omega arith; each = ((omega arith, omega arith), ((omega arith, omega arith), tt)) },
     ),
     (
-      (
-        (omega arith, omega arith),
-        record { count = omega arith; each = ((omega arith, omega arith), tt) },
-        record { count = omega arith; each = ((omega arith, omega arith), ((omega arith, omega arith), tt)) },
-      ),
+      unit_fits 5 (omega arith, omega arith),
       (
         ((omega arith, omega arith), record { count = omega arith; each = ((omega arith, omega arith), ((omega arith, omega arith), tt)) }),
-        (
-          (
-            (omega arith, omega arith),
-            record { count = omega arith; each = tt },
-            record {
-              count = omega arith;
-              each = ((omega arith, omega arith), ((omega arith, omega arith), ((omega arith, omega arith), tt)));
-            },
-          ),
-          tt,
-        ),
+        (empty_fits 7 (omega arith, omega arith), tt),
       ),
     ),
   );
