@@ -31,7 +31,7 @@ class Step(NamedTuple):
 CLANG = "make CC=clang CXX=clang++ CFLAGS='-O2 -Werror' CXXFLAGS='-O2 -Werror'"
 
 
-def sanitized(by: str, first: str = "true") -> str:
+def sanitized(by: str, first: str = "true", more: str = "") -> str:
     """A report of the sanitizer is a failure, although lrup-solve replaces a process that dies.
     What `make leaks` finds isn't looked for."""
     flags = f"-O1 -g -fsanitize={by} -fno-sanitize-recover=all"
@@ -41,7 +41,7 @@ def sanitized(by: str, first: str = "true") -> str:
         export TSAN_OPTIONS=log_path=$work/report UBSAN_OPTIONS=log_path=$work/report
         {first} &&
         make rows TESTS='lrup_solve lrup_solve_cubes lrup_solve_rounds lrup_check_filters' \
-            MORE="--flags='$flags'"
+            MORE="--flags='$flags' {more}"
         status=$?
         ! cat "$work"/report* 2> /dev/null || exit 1
         exit $status"""
@@ -112,7 +112,8 @@ STEPS = (
         { "$work/bin/example-solver" examples/bmc.cnf "$work/1" "$work/2"; [ $? -eq 20 ]; } &&
         out/bin/lrupd --tries 1000 examples/bmc.cnf "$work/1" "$work/2"
         """.strip())),
-    Step("thread", 90, [], sanitized("thread")),
+    # This sanitizer changes the timing on which it depends whether a run that breaks a rule fails.
+    Step("thread", 90, [], sanitized("thread", more="-k 'not rules_of_sharing'")),
     Step("edits", 120, [], "make edits"),
     Step("days", 90, [], "make days"),
     Step("attack", 90, ["strace"], "make attack"),

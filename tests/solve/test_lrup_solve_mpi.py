@@ -191,7 +191,9 @@ def test_cubes_of_a_file(processes: int, engines: int, tmp_path: Path) -> None:
     assert answer.lost() == []
     refuted, dealt = (int(re.findall(pattern, answer.out, re.M)[0])
                       for pattern in (r"^c (\d+) of 64 cubes refuted$", r"^c cubes: (\d+) "))
-    assert 0 < dealt < 64, "cubes of process 0"
+    assert dealt > 0, "cubes of process 0"
+    if engines == 1:    # of several, some halve cubes, and each half counts
+        assert dealt < 64, "cubes of process 0"
     assert refuted >= 64 - processes * engines, "cubes of all"
 
 

@@ -134,9 +134,9 @@ def test_rows_grow(tmp_path: Path) -> None:
                for count in re.findall(r"; ([\d,]+) carried over", answer.out)]
     assert len(rows) > 4
     assert max(rows) <= 400000
-    assert rows[-1] > 399000
-    for number, row in enumerate(rows[:3]):
-        assert row > 10000 << number, f"the row of round {number + 1} with its formula, {row}"
+    for number, row in enumerate(rows):
+        least = min(10000 << number, 399000)
+        assert row > least, f"the row of round {number + 1} with its formula, {row}"
     assert min(carried) > 0
 
 
@@ -333,7 +333,8 @@ def test_lrupd_is_killed(tmp_path: Path) -> None:
     ("two", ["engine 3", "filter 2"], 20, "engine 2 is lost"),
     ("all", ["filter 1", "filter 2", "filter 3"], 0, "no engine is left")]))
 def test_killed_with_a_record(names: List[str], status: int, cause: str, tmp_path: Path) -> None:
-    kill(["--proofs", tmp_path / "kept"], 4, False, 40000, names, status, cause, tmp_path)
+    words = ["--proofs", tmp_path / "kept", "--replace"]
+    kill(words, 4, False, 40000, names, status, cause, tmp_path)
     if status == 20:
         check_again(tmp_path / "kept")
 
@@ -347,7 +348,7 @@ def test_killed_in_a_pause(names: List[str], status: int, cause: str, has_record
                            tmp_path: Path) -> None:
     """A filter dies while it waits for lrupd to save: others may still take over what it gave
     away."""
-    words = ["--proofs", tmp_path / "kept"] if has_record else []
+    words = ["--proofs", tmp_path / "kept", "--replace"] if has_record else []
     kill(words, 1, True, 150000, names, status, cause, tmp_path)
 
 
