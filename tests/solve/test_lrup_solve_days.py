@@ -195,6 +195,8 @@ def solved(kind: str, seed: int, work: Path) -> None:
         answer = chain.killed(0.3 * 1.4 ** count)
         if chain.is_answered(answer):
             return
+        if saved_rounds(chain.kept) > 1000:     # to check many more would take too long
+            chain.tested = None
         if (saved_rounds(chain.kept) > 2
                 and (not has_changed or chain.numbers.random() < 0.2 * SIZE)):
             has_changed = True

@@ -6,6 +6,7 @@ pass its own check, and the tools have to read it. If streams can't be packed, t
 are."""
 import hashlib
 import os
+import random
 import re
 import shlex
 import shutil
@@ -18,8 +19,8 @@ import pytest
 
 from harness import (EXPLAIN, LRUP_RECHECK, NONE_BAD, PROGRAM, Ran, executable, generated, needs,
                      output_of, pack, run, until)
-from records import (checkpoints, killed_once, only_with, recorded, saved_rounds, way_on,
-                     whole)
+from records import (CHANGES, checkpoints, killed_once, only_with, recorded, saved_rounds,
+                     want_no_other, way_on, whole)
 from solving import (Answer, children_of, end_of, is_alive, listed, none_left, solve, started_run,
                      want_answer)
 
@@ -304,6 +305,14 @@ def test_a_changed_stream_of_round_1(how: str, packed_record: Path, formula: Pat
     stream.write_bytes(text)
     want_answer(solve(["-j", "2", "--resume", packed_record, formula], tested=SMALL), 20)
     want_proved(packed_record, formula, tmp_path)
+
+
+@pytest.mark.parametrize("name", [name for name in CHANGES if "stream" in name])
+def test_changed_streams(name: str, packed_record: Path, formula: Path) -> None:
+    """A change of any round's stream is found, as it is if streams aren't packed."""
+    names = CHANGES[name](packed_record, random.Random(1))
+    answer = solve(["-j", "2", "--resume", packed_record, formula], tested=SMALL)
+    want_no_other(answer, -1, formula, packed_record, names)
 
 
 @each_change

@@ -98,9 +98,15 @@ Change = Callable[[Path, random.Random], str]
 
 
 def any_of(kept: Path, numbers: random.Random, pattern: str) -> Path:
-    """A file of the saved rounds."""
+    """A file of the saved rounds. Streams may be packed."""
     named = [line[66:] for line in (kept / "rounds.sha256").read_text().splitlines()]
-    return kept / numbers.choice([name for name in named if re.fullmatch(pattern, name)])
+    name = numbers.choice([name for name in named if re.fullmatch(pattern, name)])
+    return [path for path in (kept / name, kept / f"{name}.zst") if path.exists()][0]
+
+
+def listed_name(path: Path) -> str:
+    """The name by which the record's list and messages call a file of the saved rounds."""
+    return path.stem if path.suffix == ".zst" else path.name
 
 
 def flipped(pattern: str) -> Change:
@@ -109,7 +115,7 @@ def flipped(pattern: str) -> Change:
         data = bytearray(path.read_bytes())
         data[numbers.randrange(len(data))] ^= 1 << numbers.randrange(8)
         path.write_bytes(data)
-        return path.name
+        return listed_name(path)
     return change
 
 
@@ -118,7 +124,7 @@ def filled(pattern: str) -> Change:
     def change(kept: Path, numbers: random.Random) -> str:
         path = any_of(kept, numbers, pattern)
         path.write_bytes(b"x\n" * (1 << 20) + path.read_bytes())
-        return path.name
+        return listed_name(path)
     return change
 
 
@@ -126,7 +132,7 @@ def cut(pattern: str) -> Change:
     def change(kept: Path, numbers: random.Random) -> str:
         path = any_of(kept, numbers, pattern)
         os.truncate(path, numbers.randrange(path.stat().st_size))
-        return path.name
+        return listed_name(path)
     return change
 
 
@@ -139,7 +145,7 @@ def swapped(pattern: str) -> Change:
         texts = one.read_bytes(), other.read_bytes()
         one.write_bytes(texts[1])
         other.write_bytes(texts[0])
-        return f"{one.name}|{other.name}"
+        return f"{listed_name(one)}|{listed_name(other)}"
     return change
 
 
@@ -148,7 +154,7 @@ def removed(pattern: str, then: Callable[[Path], object] = lambda path: None) ->
         path = any_of(kept, numbers, pattern)
         path.unlink()
         then(path)
-        return path.name
+        return listed_name(path)
     return change
 
 
