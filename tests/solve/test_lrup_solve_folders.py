@@ -44,8 +44,10 @@ def test_another_folder_in_place(ends: signal.Signals, tmp_path: Path) -> None:
     with started_run(["-j", "1", generated("pigeons 11", tmp_path)],
                      env_more={"TMPDIR": str(files)}, stdout=subprocess.DEVNULL) as running:
         until_there("lrupd", running)
-        engines, (folder,) = children_of(running.pid)["lrup-engines"], files.iterdir()
-        os.kill(engines, signal.SIGSTOP)    # or the run may end before it is killed
+        found, (folder,) = children_of(running.pid), files.iterdir()
+        engines = found["lrup-engines"]
+        for pid in (engines, found["lrupd"]):   # or the run may end before its process is killed,
+            os.kill(pid, signal.SIGSTOP)        # or lrupd make a file once the others are removed
         moved = folder.rename(tmp_path / "moved")
         (moved / "a link").symlink_to(mine.parent)
         written("", moved / "folder", "file")

@@ -48,9 +48,13 @@ int open_folder() {
     return openat(place, last_name.c_str(), O_PATH | O_DIRECTORY | O_NOFOLLOW | O_CLOEXEC);
 }
 
+// Tries again if lrupd, which may still run, has put a file there meanwhile.
 void remove_folder() {
-    remove_within(openat(folder_file, ".", O_RDONLY | O_DIRECTORY | O_CLOEXEC));
-    if (is_named(folder_file)) unlinkat(place, last_name.c_str(), AT_REMOVEDIR);
+    for (int tries = 0; tries < 100; tries++) {
+        remove_within(openat(folder_file, ".", O_RDONLY | O_DIRECTORY | O_CLOEXEC));
+        if (!is_named(folder_file)) return;
+        if (unlinkat(place, last_name.c_str(), AT_REMOVEDIR) == 0 || errno != ENOTEMPTY) return;
+    }
 }
 
 // In the cleaner's process. The front waits for the cleaner. Nothing is put into the folder until
