@@ -88,7 +88,7 @@ STEPS = (
         git clone -q . "$work/clone" && make -C "$work/clone" building"""),
     Step("peers", 60, ["acl2"], "make peers"),
     Step("hol", 60, ["hol-light"], "make hol"),
-    Step("rows", 60, ["valgrind"], "make sweep leaks instructions neighbours"),
+    Step("rows", 120, ["valgrind"], "make sweep leaks instructions neighbours"),
     Step("models", 30, [], "make rows TESTS=model MORE=--count=200"),
     Step("mutants", 90, [], "make rows TESTS=filter_mutants MORE='--first=10000 --count=40000'"),
     Step("filters", 90, ["cadical"],
