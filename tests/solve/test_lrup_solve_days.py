@@ -19,6 +19,7 @@ import re
 import shutil
 import signal
 import subprocess
+import time
 from pathlib import Path
 from typing import Callable, Dict, Iterator, List, Optional, Tuple
 
@@ -218,11 +219,14 @@ def changed(chain: Chain) -> None:
     except (IndexError, ValueError):        # there is no such file, or an empty one
         return shutil.rmtree(kept)
     print(f"a copy with {name}, {names}")
+    began = time.monotonic()
     answer = solve(["-j", 2, "--time", 3, "--resume", kept, chain.formula], tested=chain.tested,
                    env_more={"TMPDIR": str(chain.temporary)})
+    # Eight seconds after the time is up, the front ends lrup-engines, which then gives no cause.
+    is_up = "time is up" in answer.comments or time.monotonic() - began > 3 + 8
     if answer.status in (10, 20) and chain.status is None:
         want_answer(answer, answer.status, chain.formula)
-    elif answer.status != 0 or "time is up" not in answer.comments:
+    elif answer.status != 0 or not is_up:
         want_no_other(answer, -1 if chain.status is None else chain.status,
                       chain.formula, kept, names)
     if answer.status == 20:
