@@ -134,6 +134,7 @@ def test_rows_grow(tmp_path: Path) -> None:
                for count in re.findall(r"; ([\d,]+) carried over", answer.out)]
     assert len(rows) > 4
     assert max(rows) <= 400000
+    assert rows[-1] > 380000        # the sixth row may be a little smaller than --memory
     for number, row in enumerate(rows):
         least = min(10000 << number, 399000)
         assert row > least, f"the row of round {number + 1} with its formula, {row}"
