@@ -24,7 +24,7 @@ HELP, MANUAL = f"{COMMAND}/help.rt", "man/lrupd.1"
 USING, EMITTING, FORMAT = "docs/USING.md", "docs/EMITTING.md", "docs/FORMAT.md"
 SOLVE, EXACT, EXPLAIN = "man/lrup-solve.1", "man/lrup-exact.1", "man/lrup-explain.1"
 LIBRARY, FILTER = "tools/lib", "tools/lrup-exact"
-OF_MODELS, USAGE = "man/lrup-model.1", "crates/lrup_model_check/src/main.rt"
+OF_MODELS, USAGE = "man/lrup-model.1", "crates/lrup_model_check/src/failure.rt"
 EXPLAINER, FRONT = "tools/lrup-explain/main.c", "tools/lrup-solve/front.c"
 # The manual pages of tools, and the sources that read the tools' options.
 READERS = {SOLVE: ["tools/lrup-solve/options.def"], EXACT: [f"{FILTER}/main.c"],

@@ -145,13 +145,21 @@ enum Call {
     Retire(Id),
 }
 
-/// Publishes `-2`, or retires a clause; returns the pass, and whether the reply was `Done`.
+/// The literal of the clause to be published under an identity: `-2` for 6, and `1` for 8.
+fn literal_for(id: Id) -> Lit
+    ensures { IsPublishable four (result ∷ []) }
+{
+    if id == 6 { lit(-2) } else { lit(1) }
+}
+
+/// Publishes an identity's clause, or retires it; returns the pass, and whether the reply was
+/// `Done`.
 fn call_once(store: &Store, mut pass: Pass, call: Call) -> (Pass, Option<bool>)
     requires { IsPassAt four store.now pass }
     ensures { IsPassAt four store.now result.0 }
 {
     let done = match call {
-        Call::Publish(id) => publish(store, &mut pass, id, &[lit(-2)]).map(|a| a
+        Call::Publish(id) => publish(store, &mut pass, id, &[literal_for(id)]).map(|a| a
             == Published::Done),
         Call::Retire(id) => retire(store, &mut pass, id).map(|a| a == Retired::Done),
     };
@@ -199,8 +207,8 @@ fn publish_in_turn<R: Threads + Abort>(
     b
 }
 
-/// The second pass retires 6, and publishes 8. The first can still read its clip of 6, and once the
-/// two have met, it finds 6 retired and 8 live.
+/// The second pass retires 6, and publishes another clause under 8. The first can still read its
+/// clip of 6, and once the two have met, it finds 6 retired and 8 live.
 fn retire_in_turn<R: Threads + Abort>(
     rt: &R,
     apart: bool,

@@ -14,7 +14,7 @@ use Rattle.stream_check.specs.Streams.{RunParamsValue}
 use Rattle.stream_check.specs.declared.report.Report.{Report}
 use Rattle.checkpoint.specs.Checkpoints.{IsCheckpoint}
 use Rattle.checkpoint.specs.declared.saving.SaveFault.{SaveFault}
-use Rattle.run_outcome.specs.Histories.{IsRunOf}
+use Rattle.run_outcome.specs.Histories.{IsRunOf, RanSo}
 use Rattle.run_outcome.specs.Outcomes.{verdict_of}
 use Rattle.run_outcome.specs.declared.outcome.Verdict.{Verdict}
 use Rattle.run_outcome.specs.declared.outcome.Verdict.TheVariants.{Unknown, Unsatisfiable, UnsatisfiableUnder}
@@ -93,7 +93,8 @@ pub record AreChecked {R : Type 0} (reading : SourceView R) (serial : Bool) (for
   pub layout : (fault : LayoutFault) → IsFault run_params.layout fault → ⊥
   pub lasts : List R
   pub dropped : List DroppedIdsValue
-  pub ran : IsRunOf serial reading formula run_params firsts lasts reports dropped
+  pub ran : IsRunOf reading formula run_params firsts lasts reports dropped
+  pub way : RanSo serial formula run_params ran.run.history ran.run.streams reports
   pub is_verdict : verdict ≡ verdict_of reports
   pub sound : verdict ≡ Unsatisfiable → IsUnsatisfiable formula
   pub sound_under : verdict ≡ UnsatisfiableUnder → IsUnsatisfiableUnder formula run_params.cube

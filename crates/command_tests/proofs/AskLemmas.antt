@@ -1,9 +1,9 @@
 -- Words and files that ask for two valid rounds.
-use Rattle.std.proofs.Common.{◌≡◌, ◌∙◌, ◌++◌, ◌+◌, ◌<◌, ℕ, Bool, true, false, List, [], ◌∷◌}
+use Rattle.std.proofs.Common.{◌≡◌, ◌∙◌, ◌+◌, ◌<◌, ℕ, Bool, true, false, List, [], ◌∷◌}
 use Rattle.std.proofs.Common.{Option, None, Some, map, length, refl, sym, ap, subst, inl, inr, arith}
 use Rattle.std.specs.Prelude.{codes}
 use Rattle.std.specs.Fmt.{digits}
-use Rattle.std.specs.List.{AllByRecursion, flat_map}
+use Rattle.std.specs.List.{AllByRecursion}
 use Rattle.clap.proofs.OnLiterals.{clap_on_literals}
 use Rattle.lrup_model.specs.Cube.{CubeValue}
 use Rattle.lrup_model.specs.Event.{Reply}
@@ -15,13 +15,11 @@ use Rattle.lrup_model.specs.declared.layout.LayoutFault.{LayoutFault}
 use Rattle.lrup_model.specs.declared.layout.LayoutFault.TheVariants as layouts
 use Rattle.lrup_model.specs.lemmas.HistoryLemmas.{formula_stays}
 use Rattle.lrup_text.specs.Laws.{EmptyPending, OneCut}
-use Rattle.lrup_text.specs.Lines.{StreamLine, line_text}
 use Rattle.lrup_text.specs.ReadOut.{SourceView}
 use Rattle.dimacs.specs.FormulaText.{IsFormulaText}
 use Rattle.stream_check.specs.Closed.{IsOfStream}
 use Rattle.stream_check.specs.Streams.{stream_params}
-use Rattle.run_laws.specs.Valid.{IsValidProof, Step}
-use Rattle.run_laws.specs.Together.{IsValidOrder, lines_by}
+use Rattle.run_laws.specs.Valid.{IsValidProof}
 use Rattle.checkpoint.specs.Live.{Entry, fetches, wanted_of}
 use Rattle.checkpoint.specs.Printing.{PrintedIsRead, clause_line, formula_text, note, printed}
 use Rattle.run_outcome.specs.Saving.{is_wanted}
@@ -36,8 +34,8 @@ use Rattle.command.specs.Rounds.{CarriesOn, IsFirst, Round, WereRounds}
 use Rattle.command.specs.lemmas.SavedLemmas.{carried}
 use Rattle.outcome_laws.specs.Laws.{OneCommandLine}
 use Rattle.outcome_laws.specs.Outcomes.{layout_in}
-use Rattle.outcome_laws.specs.Valid.{AreValidAlone, AreValidInOrder, AskForValidRounds, IsAskedOf}
-use Rattle.outcome_laws.specs.Valid.{IsProvided, IsRefutedAlone, IsRefutedInOrder, RoundAsk}
+use Rattle.outcome_laws.specs.Valid.{AreValidAlone, AskForValidRounds, IsAskedOf}
+use Rattle.outcome_laws.specs.Valid.{IsProvided, IsRefutedAlone, RoundAsk}
 use Rattle.test_support.specs.Worked.{first, second, third, fourth, four, unit}
 use Rattle.test_support.specs.lemmas.WorkedLemmas.{empty_fits, empty_is_shown, four_is_cnf, unit_fits, unit_is_shown}
 use Rattle.command_tests.specs.ExactFiles.{ExactValue, text_or_none}
@@ -147,16 +145,6 @@ empty_is_valid = record {
     tt,
   );
 }
-
--- a line of stream 1, alone
-abbrev alone : StreamLine → List Step
-alone line = record { stream = 1; line = line } ∷ []
-
-unit_in_order : IsValidOrder four first_layout (alone line_of_round_1)
-unit_in_order = record { streams = ((omega arith, omega arith), tt); fits = unit_is_valid.fits; valid = unit_is_valid.valid }
-
-empty_in_order : IsValidOrder five last_layout (alone line_of_round_2)
-empty_in_order = record { streams = ((omega arith, omega arith), tt); fits = empty_is_valid.fits; valid = empty_is_valid.valid }
 
 -- with these five clauses live and wanted, exactly these are saved
 five_saved : (slots : State) (wants : ℕ → Bool) (replies : List Reply) → slots 1 ≡ states.live first → slots 2 ≡ states.live second
@@ -369,31 +357,4 @@ module _ {R W : Type 0} (rest : R → List ℕ) (content : W → List ℕ) (read
           },
           omega arith,
         ),
-      ))
-
-  pub asked_in_order : PrintedIsRead → OneFormula → OneCommandLine → OneCut → EmptyPending
-      → AskForValidRounds AreValidInOrder (IsRefutedInOrder 1 1) view two_rounds 2
-  unfolding digits
-  asked_in_order = asked AreValidInOrder (IsRefutedInOrder 1 1) (
-    alone line_of_round_1,
-    unit_in_order,
-    λ s path at.
-        let here = stream_at s path at in
-        subst (λ (t : ℕ). view.contents path ≡ Some (flat_map line_text (lines_by t (alone line_of_round_1)))) (sym here.0) here.1,
-  )
-      (λ path bytes. (
-        λ t. true,
-        alone line_of_round_2,
-        empty_in_order,
-        (refl, tt),
-        λ t at_path member at.
-            let only = only_path (stream_path (codes "dir") 2 1) t at_path at in (
-              [],
-              subst
-                  (λ (u : ℕ). its.contents (later_files path bytes) at_path
-                  ≡ Some (flat_map line_text (lines_by u (alone line_of_round_2)) ++ []))
-                  (sym only.0) (ap (its.contents (later_files path bytes)) only.1 ∙ next_at path bytes),
-            ),
-        (0, line_of_round_2, omega arith, refl, refl),
-        omega arith,
       ))

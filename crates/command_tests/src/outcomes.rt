@@ -2,10 +2,9 @@
 //! runs of these words over these files.
 ghost use Rattle.std.specs.Prelude.{◌≡◌, ◌⊎◌, IsTrue};
 ghost use Rattle.checkpoint.specs.Checkpoints.{IsUnsatisfiableText};
-ghost use Rattle.stream_check.specs.Excuses.{CutOff};
 ghost use Rattle.command.specs.Commands.{SinkChange};
 ghost use Rattle.outcome_laws.specs.Inconclusive.{InconclusiveBecause};
-ghost use Rattle.outcome_laws.specs.Valid.{AreValidAlone, AreValidInOrder, AskForValidRounds, IsRefutedAlone, IsRefutedInOrder};
+ghost use Rattle.outcome_laws.specs.Valid.{AreValidAlone, AskForValidRounds, IsRefutedAlone};
 ghost use Rattle.command_tests.specs.Outcomes.{AddsUnit, FirstLinesAgree, HaveSameTexts, RefuteInRound2, TurnsAgree, two_rounds};
 
 use crate::exact_files::ExactFiles;
@@ -24,15 +23,11 @@ use std::thread::Threads;
 use std::time::Clock;
 use test_support::Paper;
 
-/// With these files, the words ask for two rounds as the laws `outcome_of_valid_rounds` and
-/// `outcome_of_valid_orders` want them: the stream of round 1 is valid, and that of round 2 refutes
-/// the formula that round 1 saved, whatever course the run takes. A run can go on to round 2: the
-/// test of `run_two_rounds` does.
+/// With these files, the words ask for two rounds as the law `outcome_of_valid_rounds` wants them:
+/// the stream of round 1 is valid, and that of round 2 refutes the formula that round 1 saved,
+/// whatever course the run takes. A run can go on to round 2: the test of `run_two_rounds` does.
 pub fn two_rounds_are_valid<'a>(files: &ExactFiles<'a>)
-    ensures alone { RefuteInRound2 files.now → AskForValidRounds AreValidAlone (IsRefutedAlone 1 1)
-        (⟦<ExactFiles<'a> as Viewed>⟧.view files.now) two_rounds 2 }
-    ensures in_order { RefuteInRound2 files.now
-        → AskForValidRounds AreValidInOrder (IsRefutedInOrder 1 1)
+    ensures { RefuteInRound2 files.now → AskForValidRounds AreValidAlone (IsRefutedAlone 1 1)
         (⟦<ExactFiles<'a> as Viewed>⟧.view files.now) two_rounds 2 }
 {
     printed_is_read();
@@ -49,8 +44,8 @@ pub fn run_two_rounds<'a, T: Threads + Wait + Sync + Clock>(
     files: &mut ExactFiles<'a>,
 ) -> u8
     ensures { RefuteInRound2 files.old → (result ≡ 0) ⊎ ((out err : SinkChange)
-        × InconclusiveBecause (⟦<ExactFiles<'a> as Viewed>⟧.view files.old) two_rounds
-        (λ params. CutOff) 1 1 2 files.new out err result) }
+        × InconclusiveBecause (⟦<ExactFiles<'a> as Viewed>⟧.view files.old) two_rounds 1 1 2
+        files.new out err result) }
 {
     two_rounds_are_valid(files);
     outcome_of_valid_rounds(files);

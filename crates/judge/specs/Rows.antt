@@ -1,25 +1,22 @@
--- Worked rows of the page of `stream_check` as values of the judge. The stream is stream 1 of two
--- over the clauses `1 2`, `-1 2`, `1 -2` and `-1 -2`, with room for three literals and two tries.
-use Rattle.std.specs.Prelude.{◌≡◌, ◌++◌, ℕ, pos, negsuc, Bool, true, false, List, [], ◌∷◌, Option, Some, None, Result, Ok, Err, codes}
+-- What the judge's rows are about: stream 1 of two over the clauses `1 2`, `-1 2`, `1 -2` and
+-- `-1 -2`, with three identities and room for three literals for each stream, and two tries. Some
+-- rows are about another stream, or other sizes.
+use Rattle.std.specs.Prelude.{◌≡◌, ℕ, negsuc, Bool, List, [], ◌∷◌, map, Some, None}
 use Rattle.lrup_model.specs.Clause.{Clause}
+use Rattle.lrup_model.specs.Cube.{CubeValue}
 use Rattle.lrup_model.specs.Event as events
 use Rattle.lrup_model.specs.Event.{Event, History, Reply}
 use Rattle.lrup_model.specs.declared.clause_map.Published.TheVariants as publishing
 use Rattle.lrup_model.specs.declared.clause_map.Retired.TheVariants as retiring
-use Rattle.lrup_text.specs.declared.LineFault.{LineFault}
-use Rattle.lrup_text.specs.declared.LineFault.TheVariants as texts
-use Rattle.lrup_text.specs.declared.device.StreamEnd.{StreamEnd}
 use Rattle.lrup_text.specs.declared.device.StreamEnd.TheVariants as stream_ends
-use Rattle.lrup_text.specs.Lines.{StreamLine, Addition, Deletion, Import}
-use Rattle.stream_check.specs.declared.fault.Fault.{Fault}
+use Rattle.lrup_text.specs.Lines.{StreamLine, Addition}
 use Rattle.stream_check.specs.declared.fault.Fault.TheVariants as faults
 use Rattle.stream_check.specs.declared.report.Ending.{Ending}
-use Rattle.stream_check.specs.declared.report.Ending.TheVariants as endings
 use Rattle.stream_check.specs.declared.report.Report.{Report}
 use Rattle.stream_check.specs.StreamParams.{StreamParams}
-use Rattle.stream_check.specs.Verdicts.{Good, Bad}
+use Rattle.stream_check.specs.Verdicts.{LineVerdict, Good, Bad}
 use Rattle.test_support.specs.Worked.{first, second, third, fourth, unit}
-use Rattle.judge.specs.Judge.{looked_up, LineOutcome, Judged, OutOfMemory, judged_line, LineState, first_state, next_state, Refusal, judged}
+use Rattle.judge.specs.Judge.{Judged, judged_line, LineState, first_state, next_state, judged}
 
 abbrev pub row_params : StreamParams
 row_params = record {
@@ -29,151 +26,106 @@ row_params = record {
   tries = 2;
 }
 
--- `5 2 0 1 2 0`
-abbrev pub adds_unit : StreamLine
-adds_unit = Addition 5 unit (1 ∷ 2 ∷ [])
+-- this stream, of so many streams, each of which has so many identities
+abbrev pub stream_in : ℕ → ℕ → ℕ → StreamParams
+stream_in stream streams lines = record row_params {
+  layout = record row_params.layout { streams = streams; lines = lines };
+  stream = stream;
+}
+
+abbrev pub with_room : ℕ → StreamParams
+with_room room = record row_params { layout = record row_params.layout { room = room } }
+
+abbrev pub with_tries : ℕ → StreamParams
+with_tries tries = record row_params { tries = tries }
+
+abbrev pub assuming : CubeValue → StreamParams
+assuming cube = record row_params { cube = cube }
+
+-- Events of stream 1
+
+abbrev pub found : ℕ → Clause → Event
+found id clause = events.fetch 1 id (events.live clause)
+
+abbrev pub publishes : ℕ → Clause → Event
+publishes id clause = events.publish 1 id clause publishing.Done
+
+abbrev pub retires : ℕ → Event
+retires id = events.retire 1 id retiring.Done
+
+abbrev pub does_not_retire : ℕ → Event
+does_not_retire id = events.retire 1 id retiring.NotLive
+
+-- fetches of identity 6, which is stream 2's
+abbrev pub fetches_six : List Reply → History
+fetches_six replies = map (λ reply. events.fetch 1 6 reply) replies
+
+-- Lines
+
+-- `5 2 0 1 2 0`, and so on, with this identity
+abbrev pub adds_unit : ℕ → StreamLine
+adds_unit id = Addition id unit (1 ∷ 2 ∷ [])
+
+abbrev pub unit_events : ℕ → History
+unit_events id = found 1 first ∷ found 2 second ∷ publishes id unit ∷ []
+
+-- `5 1 2 0 1 0`
+abbrev pub adds_first : StreamLine
+adds_first = Addition 5 first (1 ∷ [])
+
+abbrev pub first_events : History
+first_events = found 1 first ∷ publishes 5 first ∷ []
 
 -- `7 0 5 3 4 0`
 abbrev pub adds_empty : StreamLine
 adds_empty = Addition 7 [] (5 ∷ 3 ∷ 4 ∷ [])
 
-abbrev pub found : ℕ → Clause → Event
-found id clause = events.fetch 1 id (events.live clause)
-
-abbrev pub unit_events : History
-unit_events = found 1 first ∷ found 2 second ∷ events.publish 1 5 unit publishing.Done ∷ []
-
 abbrev pub empty_events : History
-empty_events =
-    found 5 unit ∷ found 3 third ∷ found 4 fourth ∷ events.publish 1 7 [] publishing.Done ∷ []
+empty_events = found 5 unit ∷ found 3 third ∷ found 4 fourth ∷ publishes 7 [] ∷ []
+
+-- the clause `-2`, and the line `5 -2 0 6 0`
+abbrev pub other_unit : Clause
+other_unit = negsuc 1 ∷ []
+
+abbrev pub cites_six : StreamLine
+cites_six = Addition 5 other_unit (6 ∷ [])
+
+-- Rows
 
 -- what these lines leave
-abbrev pub state_after : List StreamLine → LineState → LineState
-state_after [] state = state
-state_after (line ∷ lines) state = state_after lines (next_state row_params state line)
+abbrev pub state_after : StreamParams → List StreamLine → LineState → LineState
+state_after params [] state = state
+state_after params (line ∷ lines) state = state_after params lines (next_state params state line)
 
--- The line has this block of events, none of which is left, and this outcome, after these lines, and
--- with memory refused at this identity of the line, if at all.
-abbrev pub Row : List StreamLine → Option ℕ → StreamLine → History → LineOutcome → Type 0
-Row lines refusal line block outcome =
-    judged_line row_params (state_after lines (first_state row_params)).context refusal line block
-    ≡ Some (outcome, [])
+-- after these lines, the line has this block of events, none of which is left, and this verdict
+abbrev pub LineRow : StreamParams → List StreamLine → StreamLine → History → LineVerdict → Type 0
+LineRow params lines line block verdict =
+    judged_line params (state_after params lines (first_state params)).context None line block
+    ≡ Some (Judged verdict, [])
 
--- after these lines, the last identity, the room that is left, whether 1, 5 and 6 are dropped, and the
--- counts of additions and deletions and whether a clause was empty
-pub record Leaves (lines : List StreamLine) (last free : ℕ) (drops_one drops_five drops_six : Bool)
-    (added deleted : ℕ) (empty : Bool) : Type 0 where
-  pub last_is : (state_after lines (first_state row_params)).context.last ≡ last
-  pub free_is : (state_after lines (first_state row_params)).context.free ≡ free
-  pub one : (state_after lines (first_state row_params)).context.is_dropped 1 ≡ drops_one
-  pub five : (state_after lines (first_state row_params)).context.is_dropped 5 ≡ drops_five
-  pub six : (state_after lines (first_state row_params)).context.is_dropped 6 ≡ drops_six
-  pub tally : (state_after lines (first_state row_params)).tally
-      ≡ record { added = added; deleted = deleted; empty = empty; within = empty }
+-- after these lines, the stream may add the clause `2` under this identity, with these three events
+abbrev pub MayAdd : StreamParams → List StreamLine → ℕ → Type 0
+MayAdd params lines id =
+    LineRow params lines (adds_unit id) (events.fetch params.stream 1 (events.live first)
+    ∷ events.fetch params.stream 2 (events.live second)
+    ∷ events.publish params.stream id unit publishing.Done ∷ []) Good
 
--- `5 2 2 0 1 2 0`
-abbrev pub adds_repeat : StreamLine
-adds_repeat = Addition 5 (pos 2 ∷ pos 2 ∷ []) (1 ∷ 2 ∷ [])
+-- after these lines, the stream may not add it, because of the identity
+abbrev pub MayNotAdd : StreamParams → List StreamLine → ℕ → Type 0
+MayNotAdd params lines id = LineRow params lines (adds_unit id) [] (Bad 0 faults.Identity)
 
-pub record LeavesRows : Type 0 where
-  pub none : Leaves [] 4 3 false false false 0 0 false
-  pub repeat : Leaves (adds_repeat ∷ []) 5 2 false false false 1 0 false
-  pub empty : Leaves (adds_repeat ∷ adds_empty ∷ []) 7 2 false false false 2 0 true
-  pub deletion : Leaves (adds_repeat ∷ adds_empty ∷ Deletion 9 (5 ∷ 1 ∷ 6 ∷ []) ∷ []) 7 2
-      true false true 2 3 true
+-- an ended stream of these lines, with these events, has this report
+abbrev pub StreamRow : StreamParams → List StreamLine → History → Report → Type 0
+StreamRow params lines history report =
+    judged params lines [] None stream_ends.Ended None history ≡ Some report
 
--- looking up identity 6, of stream 2
-abbrev pub LooksUpSix : List Reply → Option (Result Clause Fault × History) → Type 0
-LooksUpSix [] its = looked_up row_params (λ id. false) 6 [] ≡ its
-LooksUpSix (reply ∷ []) its =
-    looked_up row_params (λ id. false) 6 (events.fetch 1 6 reply ∷ []) ≡ its
-LooksUpSix (reply ∷ next ∷ []) its =
-    looked_up row_params (λ id. false) 6 (events.fetch 1 6 reply ∷ events.fetch 1 6 next ∷ []) ≡ its
-LooksUpSix (reply ∷ next ∷ last ∷ more) its =
-    looked_up row_params (λ id. false) 6
-    (events.fetch 1 6 reply ∷ events.fetch 1 6 next ∷ events.fetch 1 6 last ∷ []) ≡ its
-
-pub record LookUpRows : Type 0 where
-  pub at_once : LooksUpSix (events.live unit ∷ []) (Some (Ok unit, []))
-  pub later : LooksUpSix (events.vacant ∷ events.live unit ∷ []) (Some (Ok unit, []))
-  pub missing : LooksUpSix (events.vacant ∷ events.vacant ∷ events.vacant ∷ [])
-      (Some (Err (faults.Missing 6), []))
-  pub too_early : LooksUpSix (events.vacant ∷ events.vacant ∷ []) None
-
-pub record LineRows : Type 0 where
-  pub good : Row [] None adds_unit unit_events (Judged Good)
-  pub identity : Row [] None (Addition 6 unit (1 ∷ 2 ∷ [])) [] (Judged (Bad 0 faults.Identity))
-  pub literal : Row [] None (Addition 5 (pos 3 ∷ negsuc 2 ∷ []) (1 ∷ [])) []
-      (Judged (Bad 0 faults.Literal))
-  pub tautology : Row [] None (Addition 5 (pos 1 ∷ negsuc 0 ∷ []) (1 ∷ [])) []
-      (Judged (Bad 0 faults.Tautology))
-  pub room :
-      judged_line row_params (record { last = 4; free = 0; is_dropped = λ id. false }) None
-      adds_unit [] ≡ Some (Judged (Bad 0 faults.NoRoom), [])
-  pub missing : Row [] None (Addition 5 unit (5 ∷ [])) (events.fetch 1 5 events.vacant ∷ [])
-      (Judged (Bad 0 (faults.Missing 5)))
-  pub not_unit : Row [] None (Addition 5 unit (2 ∷ 3 ∷ [])) (found 2 second ∷ found 3 third ∷ [])
-      (Judged (Bad 0 (faults.NotUnit 3)))
-  pub excess : Row [] None (Addition 5 unit (1 ∷ 2 ∷ 3 ∷ []))
-      (found 1 first ∷ found 2 second ∷ []) (Judged (Bad 0 (faults.Excess 3)))
-  pub no_conflict : Row [] None (Addition 5 unit (1 ∷ [])) (found 1 first ∷ [])
-      (Judged (Bad 0 faults.NoConflict))
-  pub no_hints : Row [] None (Addition 5 unit []) [] (Judged (Bad 0 faults.NoConflict))
-  pub is_dropped : Row (Deletion 5 (1 ∷ []) ∷ []) None adds_unit []
-      (Judged (Bad 0 (faults.Dropped 1)))
-  pub retired : Row (adds_unit ∷ Deletion 5 (5 ∷ []) ∷ []) None adds_empty
-      (events.fetch 1 5 events.retired ∷ []) (Judged (Bad 0 (faults.Retired 5)))
-  pub dropped_twice : Row [] None (Deletion 5 (1 ∷ 1 ∷ [])) [] (Judged (Bad 1 (faults.NotLive 1)))
-  pub retired_twice : Row (adds_unit ∷ []) None (Deletion 5 (5 ∷ 5 ∷ []))
-      (events.retire 1 5 retiring.Done ∷ events.retire 1 5 retiring.NotLive ∷ [])
-      (Judged (Bad 1 (faults.NotLive 5)))
-  pub imported : Row [] None (Import 1 (pos 2 ∷ pos 1 ∷ [])) (found 1 first ∷ []) (Judged Good)
-  pub differs : Row [] None (Import 1 unit) (found 1 first ∷ []) (Judged (Bad 0 (faults.Differs 1)))
-  pub memory : Row [] (Some 1) (Deletion 5 (1 ∷ 2 ∷ [])) [] (OutOfMemory 1)
-
-abbrev pub reports : ℕ → ℕ → Bool → Ending → Report
-reports added deleted empty ending = record {
+-- a report with these counts, which says whether a clause was empty, whether one was within the
+-- cube, and how the stream ended
+abbrev pub reports : ℕ → ℕ → Bool → Bool → Ending → Report
+reports added deleted empty within ending = record {
   added = added;
   deleted = deleted;
   empty = empty;
-  within = empty;
+  within = within;
   ending = ending;
 }
-
--- a stream of these lines, then this rest with this fault, with this end and these events
-abbrev pub StreamRow : List StreamLine → List ℕ → Option LineFault → StreamEnd → Refusal → History
-    → Report → Type 0
-StreamRow lines rest fault end refusal history report =
-    judged row_params lines rest fault end refusal history ≡ Some report
-
-abbrev pub two_lines : List StreamLine
-two_lines = adds_unit ∷ adds_empty ∷ []
-
--- `9 2 0 1 0`
-abbrev pub adds_wrongly : StreamLine
-adds_wrongly = Addition 9 unit (1 ∷ [])
-
-pub record StreamRows : Type 0 where
-  pub none : StreamRow [] [] None stream_ends.Ended None [] (reports 0 0 false endings.Ended)
-  pub ended : StreamRow two_lines [] None stream_ends.Ended None (unit_events ++ empty_events)
-      (reports 2 0 true endings.Ended)
-  pub failed : StreamRow two_lines [] None stream_ends.Failed None (unit_events ++ empty_events)
-      (reports 2 0 true (endings.ReadFailed 3))
-  pub truncated : StreamRow two_lines (codes "9 2 0") None stream_ends.Ended None
-      (unit_events ++ empty_events)
-      (reports 2 0 true (endings.Bad 3 (faults.Text texts.Truncated)))
-  pub bad_line : (more : List StreamLine) (rest : List ℕ) (fault : Option LineFault)
-      (end : StreamEnd)
-      → StreamRow (adds_unit ∷ adds_empty ∷ adds_wrongly ∷ more) rest fault end None
-      (unit_events ++ empty_events ++ found 1 first ∷ [])
-      (reports 2 0 true (endings.Bad 3 faults.NoConflict))
-  pub bad_text : (rest : List ℕ) (end : StreamEnd)
-      → StreamRow (adds_unit ∷ []) rest (Some texts.Spelling) end None unit_events
-      (reports 1 0 false (endings.Bad 2 (faults.Text texts.Spelling)))
-  pub memory : (more : List StreamLine) (rest : List ℕ) (fault : Option LineFault)
-      (end : StreamEnd)
-      → StreamRow (Deletion 6 (6 ∷ []) ∷ more) rest fault end (Some (0, 0)) []
-      (reports 0 0 false (endings.Memory 1))
-  -- the events of another line
-  pub unfit : StreamRow two_lines [] None stream_ends.Ended None unit_events
-      (reports 1 0 false endings.Ended) → ⊥

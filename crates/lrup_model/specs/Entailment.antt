@@ -1,5 +1,6 @@
 -- Assignments and entailment (textbook).
-use Rattle.std.specs.Prelude.{◌≡◌, ℕ, suc, ℤ, pos, negsuc, Bool, true, false}
+use Rattle.std.specs.Prelude.{◌≡◌, ℕ, ℤ, nat_abs, Bool}
+use Rattle.std.specs.Int.{is_positive}
 use Rattle.std.specs.List.{AllByRecursion}
 use Rattle.lrup_model.specs.Clause.{Clause, Has, IsClause}
 use Rattle.lrup_model.specs.Formula.{Cnf}
@@ -8,10 +9,9 @@ use Rattle.lrup_model.specs.Formula.{Cnf}
 abbrev pub Assignment : Type 0
 Assignment = ℕ → Bool
 
--- the assignment makes the literal true
+-- the assignment makes the literal true: its variable is true exactly if the literal is positive
 abbrev pub MakesTrue : Assignment → ℤ → Type 0
-MakesTrue assignment (pos v) = assignment v ≡ true
-MakesTrue assignment (negsuc v) = assignment (suc v) ≡ false
+MakesTrue assignment l = assignment (nat_abs l) ≡ is_positive l
 
 -- the assignment makes some literal of the clause true
 abbrev pub Satisfies : Assignment → Clause → Type 0

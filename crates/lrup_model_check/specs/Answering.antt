@@ -1,4 +1,4 @@
--- What the program prints of an answer, and its statuses (this project's own).
+-- What the program prints of an answer (this project's own).
 use Rattle.std.specs.Fmt.{decimal, signed_decimal}
 use Rattle.std.specs.Io.KnownBytes.{Appends}
 use Rattle.std.specs.Prelude.{◌++◌, ◌∷◌, ◌≡◌, ℕ, ℤ, List, [], Option, codes}
@@ -8,13 +8,6 @@ use Rattle.model_check.specs.declared.answer.Answer.{Answer}
 use Rattle.model_check.specs.declared.answer.Answer.TheVariants.{Satisfies, Contradiction, UntrueClause, UntrueAssumption}
 use Rattle.lrup_model_check.specs.declared.answering.Fault.{Fault}
 use Rattle.lrup_model_check.specs.declared.answering.Fault.TheVariants as faults
-
--- the status of an answer
-abbrev pub answer_status : Answer → ℕ
-answer_status Satisfies = 10
-answer_status (Contradiction l) = 3
-answer_status (UntrueClause number) = 3
-answer_status (UntrueAssumption l) = 3
 
 -- a literal and a space, between two texts
 abbrev pub literal_text : List ℕ → ℤ → List ℕ → List ℕ

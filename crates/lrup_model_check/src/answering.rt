@@ -3,7 +3,7 @@ ghost use Rattle.std.specs.Prelude.{◌≡◌, ◌≢◌, ◌↔◌, Err, IfErr,
 ghost use Rattle.std.specs.Io.KnownBytes.{Appends};
 ghost use Rattle.lrup_text.specs.Writing.{WritesText};
 ghost use Rattle.model_check.specs.Answers.{AreAnswered, AreSatisfied, bytes_of};
-ghost use Rattle.lrup_model_check.specs.Answering.{IsAnswerFault, answer_status, answer_text, literal_text};
+ghost use Rattle.lrup_model_check.specs.Answering.{IsAnswerFault, answer_text, literal_text};
 
 use lrup_model::Lit;
 use lrup_text::{Sink, WriteBuffer, WriteFault, write_all};
@@ -106,14 +106,4 @@ fn write_untrue<O: Sink>(number: u64, out: &mut O) -> Result<(), WriteFault>
     buffer.put_number(number, out)?;
     buffer.put(b" has no true literal\n", out)?;
     buffer.flush(out)
-}
-
-/// The status of an answer.
-pub fn status_of(answer: Answer) -> u8
-    ensures { result ≡ answer_status answer }
-{
-    match answer {
-        Answer::Satisfies => 10,
-        Answer::Contradiction(_) | Answer::UntrueClause(_) | Answer::UntrueAssumption(_) => 3,
-    }
 }

@@ -3,58 +3,18 @@
 #![tactic(auto)]
 
 mod answering;
+mod checking;
+mod failure;
+mod words;
 
-use answering::{Fault, answer, status_of};
+use checking::{Files, check};
+use failure::{Failure, exit_status};
 use lrup_text::Writing;
-use model_check::{Answer, CheckFault};
+use model_check::Answer;
 use std::env;
 use std::fs::File;
 use std::io::{self, Read};
 use std::process::ExitCode;
-use thiserror::Error;
-
-/// The usage of the program.
-const USAGE: &str = "usage: lrup-model [--assume FILE] FORMULA MODEL
-
-Checks whether MODEL, the `v` lines of a SAT solver's answer, satisfies FORMULA, a file in DIMACS
-CNF, and makes the literals in FILE true, if it is given. A file named - is standard input.
-
-Status 10: `s SATISFIABLE`. 3: it doesn't, and a comment says why. Otherwise standard error says
-why there is no answer. 2: usage. 4: a file was refused. 5: a file can't be read. 6: out of memory.
-7: the answer can't be written.";
-
-/// Why there is no answer.
-#[derive(Debug, Drop, Error)]
-enum Failure {
-    /// The words ask for nothing that the program does, or for help.
-    #[error("{USAGE}")]
-    Usage,
-    /// An argument isn't UTF-8.
-    #[error("lrup-model: an argument isn't UTF-8")]
-    NotText,
-    /// The file with this role can't be read to its end.
-    #[error("lrup-model: cannot read {0}")]
-    Unread(&'static str),
-    /// What `answer` gives.
-    #[error("lrup-model: {0}")]
-    Answer(Fault),
-    /// Out of memory.
-    #[error("lrup-model: out of memory")]
-    Memory,
-}
-
-impl Failure {
-    /// The exit status.
-    fn status(&self) -> u8 {
-        match self {
-            Failure::Usage | Failure::NotText => 2,
-            Failure::Answer(Fault::Check(CheckFault::Memory)) | Failure::Memory => 6,
-            Failure::Answer(Fault::Check(_)) => 4,
-            Failure::Unread(_) => 5,
-            Failure::Answer(Fault::Unwritten) => 7,
-        }
-    }
-}
 
 /// The failure of reading the file with this role.
 fn unread(error: &io::Error, role: &'static str) -> Failure {
@@ -64,44 +24,30 @@ fn unread(error: &io::Error, role: &'static str) -> Failure {
     }
 }
 
-/// Reads a file to its end. `-` is standard input.
-fn read_file(rt: &HostRuntime, path: &str, role: &'static str) -> Result<Vec<u8>, Failure> {
-    let mut bytes = Vec::new(rt.alloc());
-    let read = if path == "-" {
-        rt.stdin().read_to_end(&mut bytes)
-    } else {
-        match File::open(rt, path) {
-            Ok(mut file) => file.read_to_end(&mut bytes),
-            Err(error) => Err(error),
-        }
-    };
-    match read {
-        Ok(_) => Ok(bytes),
-        Err(error) => Err(unread(&error, role)),
-    }
+/// The machine's files. Contracts say nothing about their contents: `gives` allows everything.
+#[derive(Drop)]
+struct MachineFiles<'a> {
+    rt: &'a HostRuntime,
 }
 
-/// Checks the files with these paths.
-fn check(
-    rt: &HostRuntime,
-    assumed: Option<&str>,
-    formula: &str,
-    model: &str,
-) -> Result<Answer, Failure> {
-    let formula = read_file(rt, formula, "formula")?;
-    let assumed = match assumed {
-        Some(path) => Some(read_file(rt, path, "assumptions")?),
-        None => None,
-    };
-    let model = read_file(rt, model, "model")?;
-    let assumed = match &assumed {
-        Some(bytes) => Some(bytes.as_slice()),
-        None => None,
-    };
-    let mut out = Writing::new(rt.stdout());
-    match answer(rt.alloc(), &formula, assumed, &model, &mut out) {
-        Ok(answer) => Ok(answer),
-        Err(fault) => Err(Failure::Answer(fault)),
+impl Files for MachineFiles<'_> {
+    ghost gives = { λ _ _ _. Unit {0} };
+
+    /// `-` is standard input.
+    fn read(&self, path: &str, role: &'static str) -> Result<Vec<u8>, Failure> {
+        let mut bytes = Vec::new(self.rt.alloc());
+        let read = if path == "-" {
+            self.rt.stdin().read_to_end(&mut bytes)
+        } else {
+            match File::open(self.rt, path) {
+                Ok(mut file) => file.read_to_end(&mut bytes),
+                Err(error) => Err(error),
+            }
+        };
+        match read {
+            Ok(_) => Ok(bytes),
+            Err(error) => Err(unread(&error, role)),
+        }
     }
 }
 
@@ -122,25 +68,11 @@ fn words_of(rt: &HostRuntime) -> Result<Vec<String>, Failure> {
     }
 }
 
-/// Whether the word is an option; a single `-` isn't.
-fn is_option(word: &str) -> bool {
-    let bytes = word.as_bytes();
-    bytes.len() > 1 && bytes[0] == b'-'
-}
-
 /// Does what the words ask for.
 fn run(rt: &HostRuntime) -> Result<Answer, Failure> {
     let words = words_of(rt)?;
-    match words.as_slice() {
-        [formula, model] if !is_option(formula) && !is_option(model) => {
-            check(rt, None, formula, model)
-        }
-        [option, file, formula, model]
-            if option.as_str() == "--assume" && !is_option(formula) && !is_option(model) => {
-            check(rt, Some(file), formula, model)
-        }
-        _ => Err(Failure::Usage),
-    }
+    let mut out = Writing::new(rt.stdout());
+    check(rt.alloc(), &words, &MachineFiles { rt }, &mut out)
 }
 
 /// Opens `/dev/null`; `None` if that fails.
@@ -152,11 +84,9 @@ fn main(rt: HostRuntime) -> ExitCode {
     // Occupy descriptors 0 to 2, so that no file opened later is mistaken for a closed standard
     // stream.
     let _held = [hold(&rt), hold(&rt), hold(&rt)];
-    match run(&rt) {
-        Ok(answer) => ExitCode::from(status_of(answer)),
-        Err(failure) => {
-            let _ = eprintln!(&rt; "{failure}");
-            ExitCode::from(failure.status())
-        }
+    let found = run(&rt);
+    if let Err(failure) = &found {
+        let _ = eprintln!(&rt; "{failure}");
     }
+    ExitCode::from(exit_status(&found))
 }

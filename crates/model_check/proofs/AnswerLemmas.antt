@@ -1,6 +1,6 @@
 -- What the answers mean, and that files have one.
 use Rattle.std.proofs.Common.{◌≡◌, ◌≢◌, ◌⊎◌, ◌<◌, ◌≤◌, ◌^◌, ℕ, ℤ, pos, negsuc, neg_ℤ, Bool, true, false, Option, Some, None, Result, Ok}
-use Rattle.std.proofs.Common.{Err, List, [], ◌∷◌, ◌++◌, suc, refl, sym, ap, subst, inl, inr, arith}
+use Rattle.std.proofs.Common.{Err, List, [], ◌∷◌, ◌++◌, zero, suc, refl, sym, ap, ◌∙◌, subst, inl, inr, arith}
 use Rattle.std.specs.Prelude.{IfOk, IfErr}
 use Rattle.std.specs.List.{AllByRecursion}
 use Rattle.lrup_model.specs.Literal.{IsLiteral, max_variable}
@@ -9,6 +9,7 @@ use Rattle.lrup_model.specs.Formula.{Cnf}
 use Rattle.lrup_model.specs.Cube.{CubeValue, IsCubeOver}
 use Rattle.lrup_model.specs.Entailment.{Assignment, MakesTrue, Satisfies as IsTrueClause}
 use Rattle.lrup_model.specs.lemmas.ClauseLemmas.{All-Has, All-from_Has, Has-append_left, Has-append_right, Has_cases}
+use Rattle.lrup_model.specs.lemmas.EntailmentLemmas.{is_positive-pos, is_positive-negsuc}
 use Rattle.lrup_model.specs.lemmas.ListLemmas.{All-map}
 use Rattle.dimacs.specs.FormulaText.{IsFormulaText}
 use Rattle.dimacs.specs.FormulaFault.{IsFormulaFault}
@@ -48,8 +49,10 @@ truth literals v = decided (Has_cases literals (pos v))
 
 makes_one : (literals : List ℤ) → AreConsistent literals → (l : ℤ) → Has literals l → MakesTrue (truth literals) l
 unfolding truth
-makes_one literals consistent (pos v) h = decided_yes (Has_cases literals (pos v)) h
-makes_one literals consistent (negsuc v) h = decided_no (Has_cases literals (pos (suc v))) (consistent (negsuc v) h)
+makes_one literals consistent (pos zero) h = absurd (consistent (pos zero) h h)
+makes_one literals consistent (pos (suc v)) h = decided_yes (Has_cases literals (pos (suc v))) h ∙ sym (is_positive-pos v)
+makes_one literals consistent (negsuc v) h =
+    decided_no (Has_cases literals (pos (suc v))) (consistent (negsuc v) h) ∙ sym (is_positive-negsuc v)
 
 pub satisfied_from : (formula_bytes : List ℕ) (cube_bytes : Option (List ℕ)) (model_bytes : List ℕ) (result : Result Answer CheckFault)
     → IfOk result (AreAnswered formula_bytes cube_bytes model_bytes) → result ≡ Ok Satisfies

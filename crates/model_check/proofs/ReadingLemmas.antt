@@ -8,7 +8,7 @@ use Rattle.std.proofs.lemmas.List.{append-nil}
 use Rattle.lrup_model.specs.Literal.{IsLiteral}
 use Rattle.dimacs.specs.Lines.{ends_line, is_comment, is_empty, runs, token_lines}
 use Rattle.dimacs.specs.Numerals.{number_of}
-use Rattle.model_check.specs.ModelText.{is_v, is_s, IsAnswerLine, values_of, IsModelText}
+use Rattle.model_check.specs.ModelText.{is_v, is_s, values_of, IsModelText}
 use Rattle.model_check.specs.Reading.{Assigned, Outcome, onward, take_number, take_token, take_tokens, take_line, take_lines, at_end}
 use Rattle.model_check.specs.Reading.{all_lines, model_in}
 use Rattle.model_check.specs.declared.fault.ModelFault.{ModelFault}
@@ -135,9 +135,24 @@ kept lines = filter (λ (tokens : List (List ℕ)). not (is_empty tokens)) lines
 abbrev listed : List (List ℕ) → List (List (List ℕ))
 listed lines = kept (map runs (filter (λ (line : List ℕ). not (is_comment line)) lines))
 
+heads : {A : Type 0} {x y : A} {xs ys : List A} → x ≡ y → xs ≡ ys → x ∷ xs ≡ y ∷ ys
+heads e es = cc
+
+abbrev present : List (List (List ℕ)) → List (Option (List (List ℕ)))
+present values = map (λ tokens. Some tokens) values
+
+abbrev joined : List (List (List ℕ)) → List (List ℕ)
+joined values = flat_map (λ tokens. tokens) values
+
+abbrev some_values : List (List ℕ) → Option (List (List ℕ))
+some_values tokens = Some tokens
+
+abbrev no_values : Option (List (List ℕ))
+no_values = None
+
 -- these lines are an answer's, and reading their literals leads from s to t
 abbrev AreRead : ℕ → List (List (List ℕ)) → Assigned → Assigned → Type 0
-AreRead vars lines s t = AllByRecursion IsAnswerLine lines × Reads vars (flat_map values_of lines) s t
+AreRead vars lines s t = (values : List (List (List ℕ))) × (map values_of lines ≡ present values) × Reads vars (joined values) s t
 
 line_from : (vars line : ℕ) (tokens : List (List ℕ)) (later : List (List (List ℕ))) (s m t : Assigned)
     → take_line vars line tokens s ≡ Ok m → AreRead vars (kept later) m t → AreRead vars (kept (tokens ∷ later)) s t
@@ -146,15 +161,18 @@ line_from vars line (first ∷ tokens) later s m t h read =
     ⊎_elim
     (λ (v : is_v first ≡ true).
     let k : take_tokens vars line tokens s ≡ Ok m = rw v at h in
-    let joined = reads_join vars tokens (flat_map values_of (kept later)) s m t (reads_from vars line tokens s m k) read.1 in
-    ((inl v, read.0), rw v joined))
+    let both = reads_join vars tokens (joined read.0) s m t (reads_from vars line tokens s m k) read.2 in
+    (tokens ∷ read.0, heads (rw v refl) read.1, both))
     (λ (other : is_v first ≡ false).
     let k : cond (is_s first) (fine s) (refused (OtherLine line)) ≡ fine m = rw other at h in
     ⊎_elim
     (λ (verdict : is_s first ≡ true).
     let j : fine s ≡ Ok m = rw verdict at k in
-    let e : m ≡ s = cc in
-    ((inr verdict, read.0), rw other (subst (λ (x : Assigned). Reads vars (flat_map values_of (kept later)) x t) e read.1)))
+    let e : m ≡ s = cc in (
+      [] ∷ read.0,
+      heads (rw (other, verdict) refl) read.1,
+      subst (λ (x : Assigned). Reads vars (joined read.0) x t) e read.2,
+    ))
     (λ (none : is_s first ≡ false). let j : refused (OtherLine line) ≡ Ok m = rw none at k in cc)
     (cases_Bool (is_s first)))
     (cases_Bool (is_v first))
@@ -163,16 +181,27 @@ line_to : (vars line : ℕ) (tokens : List (List ℕ)) (later : List (List (List
     → AreRead vars (kept (tokens ∷ later)) s t
     → (m : Assigned) × (take_line vars line tokens s ≡ Ok m) × AreRead vars (kept later) m t
 line_to vars line [] later s t h = (s, refl, h)
-line_to vars line (first ∷ tokens) later s t h =
+line_to vars line (first ∷ tokens) later s t ([], are, reads) = cc
+line_to vars line (first ∷ tokens) later s t (here ∷ values, are, reads) =
+    let head : values_of (first ∷ tokens) ≡ some_values here = cc in
+    let tail : map values_of (kept later) ≡ present values = cc in
     ⊎_elim
     (λ (v : is_v first ≡ true).
-    let both : Reads vars (tokens ++ flat_map values_of (kept later)) s t = rw v at h.1 in
-    let parts = reads_parts vars tokens (flat_map values_of (kept later)) s t both in
-    (parts.0, rw v (reads_to vars line tokens s parts.0 parts.1), (h.0.1, parts.2)))
+    let k : some_values tokens ≡ some_values here = rw v at head in
+    let e : here ≡ tokens = cc in
+    let both : Reads vars (tokens ++ joined values) s t = rw e at reads in
+    let parts = reads_parts vars tokens (joined values) s t both in
+    (parts.0, rw v (reads_to vars line tokens s parts.0 parts.1), (values, tail, parts.2)))
     (λ (other : is_v first ≡ false).
-    let verdict : is_s first ≡ true = ⊎_elim (λ v. absurd (false≢true (sym other ∙ v))) (λ yes. yes) h.0.0 in
-    let left : Reads vars (flat_map values_of (kept later)) s t = rw other at h.1 in
-    (s, rw (other, verdict) refl, (h.0.1, left)))
+    let k : cond (is_s first) (some_values []) no_values ≡ some_values here = rw other at head in
+    ⊎_elim
+    (λ (verdict : is_s first ≡ true).
+    let j : some_values [] ≡ some_values here = rw verdict at k in
+    let e : here ≡ [] = cc in
+    let left : Reads vars (joined values) s t = rw e at reads in
+    (s, rw (other, verdict) refl, (values, tail, left)))
+    (λ (none : is_s first ≡ false). let j : no_values ≡ some_values here = rw none at k in cc)
+    (cases_Bool (is_s first)))
     (cases_Bool (is_v first))
 
 any_from : (vars line : ℕ) (bytes : List ℕ) (later : List (List ℕ)) (s m t : Assigned)
@@ -191,13 +220,14 @@ any_from vars line bytes later s m t h read =
 
 lines_from : (vars line : ℕ) (lines : List (List ℕ)) (s t : Assigned) → take_lines vars line lines s ≡ Ok t
     → AreRead vars (listed lines) s t
-lines_from vars line [] s t h = (tt, (cc))
+lines_from vars line [] s t h = ([], refl, (cc))
 lines_from vars line (bytes ∷ later) s t h =
     let m = onward_ok (cond (is_comment bytes) (fine s) (take_line vars line (runs bytes) s)) (take_lines vars (line + 1) later) t h in
     any_from vars line bytes later s m.0 t m.1 (lines_from vars (line + 1) later m.0 t m.2)
 
 lines_to : (vars line : ℕ) (lines : List (List ℕ)) (s t : Assigned) → AreRead vars (listed lines) s t → take_lines vars line lines s ≡ Ok t
-lines_to vars line [] s t h = ap fine h.1
+lines_to vars line [] s t ([], are, reads) = ap fine reads
+lines_to vars line [] s t (here ∷ values, are, reads) = cc
 lines_to vars line (bytes ∷ later) s t h =
     ⊎_elim
     (λ (yes : is_comment bytes ≡ true).
@@ -217,9 +247,6 @@ somes numbers = map (λ (number : ℤ). Some number) numbers
 is_zero_from : (number : ℤ) → nat_abs number ≡ 0 → number ≡ pos 0
 is_zero_from (pos n) h = ap pos h
 is_zero_from (negsuc n) h = absurd (omega (arith, h))
-
-heads : {x y : Option ℤ} {xs ys : List (Option ℤ)} → x ≡ y → xs ≡ ys → x ∷ xs ≡ y ∷ ys
-heads e es = cc
 
 mapped_none : (tokens : List (List ℕ)) → map number_of tokens ≡ [] → tokens ≡ []
 mapped_none [] h = refl
@@ -281,14 +308,15 @@ pub text_is_read : (vars : ℕ) (bytes : List ℕ) (literals : List ℤ) → IsM
     ↔ (model_in vars bytes ≡ Ok literals)
 text_is_read vars bytes literals = (
   λ text.
-      let reads = spells_to vars (flat_map values_of (token_lines bytes)) [] literals text.numbers text.within in
-      ap at_end (lines_to vars 1 (slice_split ends_line bytes) (opened []) (closed literals) (text.lines, reads)),
+      let reads = spells_to vars (joined text.values) [] literals text.numbers text.within in
+      ap at_end (lines_to vars 1 (slice_split ends_line bytes) (opened []) (closed literals) (text.values, text.lines, reads)),
   λ read.
       let lines =
       lines_from vars 1 (slice_split ends_line bytes) (opened []) (closed literals) (ended_from (all_lines vars bytes) literals read) in
-      let spelled = spells_from vars (flat_map values_of (token_lines bytes)) [] literals lines.1 in
+      let spelled = spells_from vars (joined lines.0) [] literals lines.2 in
       record {
-        lines = lines.0;
+        values = lines.0;
+        lines = lines.1;
         numbers = spelled.2 ∙ ap (λ (x : List ℤ). somes (x ++ pos 0 ∷ [])) (sym spelled.1);
         within = subst (AllByRecursion (IsLiteral vars)) (sym spelled.1) spelled.3;
       },

@@ -1,9 +1,9 @@
 -- What an answer says of a formula, of assumed literals and of a solver's model (textbook).
 use Rattle.std.specs.Borrow.{Bor}
-use Rattle.std.specs.Prelude.{◌≡◌, ◌≢◌, ◌↔◌, ◌+◌, ◌≤◌, ℕ, ℤ, neg_ℤ, Option, Some, None, Result, Ok, Err, List, [], ◌∷◌, ◌++◌, length}
-use Rattle.std.specs.Prelude.{option_map}
+use Rattle.std.specs.Prelude.{◌≡◌, ◌≢◌, ◌↔◌, ◌+◌, ◌≤◌, ℕ, ℤ, neg_ℤ, nat_abs, IsTrue, Option, Some, None, Result, Ok, Err, List, [], ◌∷◌, ◌++◌}
+use Rattle.std.specs.Prelude.{option_map, length}
+use Rattle.std.specs.Int.{is_positive}
 use Rattle.std.specs.List.{AllByRecursion}
-use Rattle.lrup_model.specs.Literal.{code_of}
 use Rattle.lrup_model.specs.Clause.{Clause, Has}
 use Rattle.lrup_model.specs.Formula.{Cnf}
 use Rattle.lrup_model.specs.Cube.{CubeValue, MakesAllTrue}
@@ -55,11 +55,13 @@ pub record IsFirstUntrue (clauses : List Clause) (literals : List ℤ) (number :
   pub others : AllByRecursion (HasOneOf literals) before
   pub untrue : ¬ HasOneOf literals clause
 
--- the assumed literal with the smallest code that isn't one of the literals
+-- the assumed literal that isn't one of the literals, and has the smallest variable of these; if
+-- both literals of the variable are such, the positive one
 pub record IsFirstMissing (cube : CubeValue) (literals : List ℤ) (l : ℤ) : Type 0 where
   pub assumed : Has cube l
   pub missing : ¬ Has literals l
-  pub first : (other : ℤ) → Has cube other → ¬ Has literals other → code_of l ≤ code_of other
+  pub smallest : (other : ℤ) → Has cube other → ¬ Has literals other → nat_abs l ≤ nat_abs other
+  pub positive : Has cube (neg_ℤ l) → ¬ Has literals (neg_ℤ l) → IsTrue (is_positive l)
 
 -- what the answer says of the model's literals
 abbrev pub IsAnswer : Cnf → CubeValue → List ℤ → Answer → Type 0

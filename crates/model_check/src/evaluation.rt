@@ -73,7 +73,7 @@ fn first_untrue(formula: &Formula, marks: &[bool]) -> Option<u64>
     None
 }
 
-/// The assumed literal with the smallest code that isn't marked.
+/// The first assumed literal that isn't marked: variable by variable, the positive literal first.
 fn first_missing(cube: &Cube, marks: &[bool], vars: u32) -> Option<Lit>
     requires few { vars ≤ max_variable }
     requires over { IsCubeOver vars cube.now }

@@ -1,21 +1,21 @@
 -- A check of streams, and the check that each round of an outcome has.
-use Rattle.std.proofs.Common.{◌≡◌, ◌⊎◌, ◌<◌, ◌≤◌, ◌-◌, ◌++◌, ℕ, eqb, ne_eqb, Bool, true, false, List, [], ◌∷◌, length, map, zero, suc, ◌+◌}
+use Rattle.std.proofs.Common.{◌≡◌, ◌⊎◌, ◌≤◌, ◌-◌, ◌++◌, ℕ, Bool, true, false, List, [], ◌∷◌, length, map, zero, suc, ◌+◌}
 use Rattle.std.proofs.Common.{Option, Some, refl, inl, inr, sym, ap, ap₂, subst, ◌∙◌, arith}
-use Rattle.std.specs.Prelude.{IsTrue, option_map, slice_get, ◌||◌, if◌then◌else◌}
-use Rattle.std.specs.List.{AllByRecursion, Any, flat_map, list_any}
-use Rattle.std.proofs.lemmas.Bool.{cases_eq, cond-true, cond-false, or_right}
+use Rattle.std.specs.Prelude.{option_map, slice_get, ◌||◌, if◌then◌else◌}
+use Rattle.std.specs.List.{Any, list_any}
+use Rattle.std.proofs.lemmas.Bool.{cond-true, or_right}
 use Rattle.std.proofs.lemmas.List.{length-map}
 use Rattle.std.proofs.lemmas.Option.{slice_get-map, slice_get_within, slice_get_cases}
 use Rattle.lrup_model.specs.Cube.{CubeValue}
 use Rattle.lrup_model.specs.Event.{History}
 use Rattle.lrup_model.specs.Formula.{Cnf, IsCnf}
 use Rattle.lrup_model.specs.Layout.{Fits, IsStream}
-use Rattle.lrup_text.specs.Lines.{StreamLine, line_text}
+use Rattle.lrup_text.specs.Lines.{StreamLine}
 use Rattle.lrup_text.specs.ReadOut.{SourceView}
 use Rattle.stream_check.specs.declared.report.Report.{Report}
 use Rattle.stream_check.specs.Laws.{EmptyCubeReported}
 use Rattle.stream_check.specs.SequentialConsistency.{AreJudgedIn}
-use Rattle.stream_check.specs.Excuses.{CutOff, Lacking, IsExcusedAt}
+use Rattle.stream_check.specs.Excuses.{CutOff, IsExcusedAt}
 use Rattle.stream_check.specs.Closed.{IsOfStream}
 use Rattle.stream_check.specs.Streams.{Stream, InputObservation, RunParamsValue, stream_params, observations}
 use Rattle.stream_check.specs.lemmas.StreamLemmas.{judged_count, same_at, observed_as_many, observation_at, some_end}
@@ -23,8 +23,6 @@ use Rattle.stream_check.specs.Turns.{IsOrderedRoundRobin}
 use Rattle.run_laws.specs.Groups.{IsRun}
 use Rattle.run_laws.specs.Valid.{AddsEmpty, IsValidProof}
 use Rattle.run_laws.specs.ValidLaws.{ValidBegins, ValidEmpty}
-use Rattle.run_laws.specs.Valid.{Step}
-use Rattle.run_laws.specs.Together.{IsValidOrder, HaveTexts, lines_by, TogetherBegins}
 use Rattle.run_outcome.specs.Histories.{RanSo}
 use Rattle.run_outcome.specs.Outcomes.{verdict_of}
 use Rattle.run_outcome.specs.declared.outcome.Verdict.{Verdict}
@@ -83,16 +81,6 @@ comes_to reports verdict s report is at says =
     is ∙ cond-true (list_any (λ r. r.empty) reports) Unsatisfiable
     (if list_any (λ r. r.within) reports then UnsatisfiableUnder else Unknown) (one_says reports (s - 1) report at.1 says)
 
--- what holds for the stream of each step holds for each stream that has a line among the steps
-pub of_some : (s : ℕ) (P : ℕ → Type 0) (steps : List Step) → AllByRecursion (λ step. P step.stream) steps
-    → 0 < length (lines_by s steps) → P s
-of_some s P [] all some = absurd (omega (arith, some))
-of_some s P (step ∷ steps) all some = elim (cases_eq step.stream s) [
-  | inl same ↦ subst P same all.0
-  | inr other ↦ of_some s P steps all.1 (subst (λ (ls : List StreamLine). 0 < length ls)
-      (cond-false (eqb step.stream s) (step.line ∷ lines_by s steps) (lines_by s steps) (ne_eqb step.stream s other)) some)
-]
-
 -- each stream of a run has a report
 pub has_report : (f : Cnf) (run_params : RunParamsValue) (observed : List InputObservation) (reports : List Report)
     (r : IsRun f run_params observed reports) (s : ℕ)
@@ -142,7 +130,7 @@ module _ {R : Type 0} (reading : SourceView R) (c : Check reading) where
   pub turns_of : c.serial ≡ true → IsOrderedRoundRobin c.formula c.run_params run_of.streams c.reports
   turns_of on_one =
       let way : RanSo true c.formula c.run_params run_of.history run_of.streams c.reports =
-      subst (λ (b : Bool). RanSo b c.formula c.run_params run_of.history run_of.streams c.reports) on_one c.checked.ran.way in
+      subst (λ (b : Bool). RanSo b c.formula c.run_params run_of.history run_of.streams c.reports) on_one c.checked.way in
       way.0
 
   -- with an empty cube, the verdict is never 'unsatisfiable under assumptions'
@@ -196,35 +184,4 @@ module _ {R : Type 0} (reading : SourceView R) (c : Check reading) where
             inl (comes_to c.reports c.verdict s report.0 c.checked.is_verdict report.1
             (least.empty ((empty c.run_params s lines).1 refutes)))
         | inr cut ↦ inr (report.0, report.1, cut)
-      ]
-
-  -- the files of a set of streams begin with the texts of these streams' lines
-  abbrev pub BeginSo : (ℕ → Bool) → List Step → Type 0
-  BeginSo set steps = (t : ℕ) (path : Text) → IsTrue (set t) → IsOfStream c.paths t path
-      → (more : List ℕ) × (c.contents path ≡ Some (flat_map line_text (lines_by t steps) ++ more))
-
-  pub have_texts : (set : ℕ → Bool) (steps : List Step) → BeginSo set steps → HaveTexts set steps observed_of
-  have_texts set steps begin t observation member at =
-      let path = path_at t observation at in
-      let contents = begin t path.0 member path.1 in
-      (contents.0, entry_at t observation path.0 (flat_map line_text (lines_by t steps) ++ contents.0) at path.1 contents.1)
-
-  -- If a stream adds the empty clause in a valid order, the verdict is 'unsatisfiable', or the
-  -- stream, in one of its lines, was cut off or lacks another stream's clause.
-  pub order_says : TogetherBegins → ValidEmpty → IsCnf c.formula → (s : ℕ) (set : ℕ → Bool) (steps : List Step)
-      → IsValidOrder c.formula c.run_params.layout steps → AllByRecursion (λ step. IsTrue (set step.stream)) steps
-      → BeginSo set steps → Any AddsEmpty (lines_by s steps)
-      → (c.verdict ≡ Unsatisfiable)
-      ⊎ ((report : Report) × IsOfStream c.reports s report
-      × ((line : ℕ) × (line ≤ length (lines_by s steps)) × IsExcusedAt (Lacking (stream_params c.run_params s)) report line))
-  order_says together empty cnf s set steps order members begin refutes =
-      let some : 0 < length (lines_by s steps) = omega (arith, refutes.2) in
-      let stream : IsStream c.run_params.layout s = of_some s (IsStream c.run_params.layout) steps order.streams some in
-      let member : IsTrue (set s) = of_some s (λ t. IsTrue (set t)) steps members some in
-      let report = has_report c.formula c.run_params observed_of c.reports run_of s stream in
-      elim (together c.formula c.run_params set steps observed_of c.reports s report.0 cnf c.fits order members run_of
-      (have_texts set steps begin) member report.1) [
-        | inl least ↦ inl (comes_to c.reports c.verdict s report.0 c.checked.is_verdict report.1
-            (least.empty ((empty c.run_params s (lines_by s steps)).1 refutes)))
-        | inr held ↦ inr (report.0, report.1, held)
       ]

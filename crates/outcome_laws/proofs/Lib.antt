@@ -10,4 +10,3 @@ mod SerialLemmas
 mod RefutingLemmas
 mod StreamLemmas
 mod RoundLemmas
-mod PrintedLemmas

@@ -5,13 +5,8 @@ use Rattle.std.proofs.lemmas.Bool.{cases_lt}
 use Rattle.lrup_model.specs.Cube.{CubeValue}
 use Rattle.lrup_model.specs.Formula.{Cnf, IsCnf}
 use Rattle.dimacs.specs.FormulaText.{IsFormulaText}
-use Rattle.stream_check.specs.declared.report.Report.{Report}
-use Rattle.stream_check.specs.Excuses.{Lacking}
 use Rattle.stream_check.specs.Laws.{EmptyCubeReported}
-use Rattle.stream_check.specs.Streams.{stream_params}
 use Rattle.run_laws.specs.ValidLaws.{ValidBegins, ValidEmpty, ValidReported}
-use Rattle.run_laws.specs.TurnsLaws.{ValidRoundRobin}
-use Rattle.run_laws.specs.Together.{ValidTogether, TogetherBegins}
 use Rattle.run_outcome.specs.declared.outcome.Verdict.{Verdict}
 use Rattle.run_outcome.specs.declared.outcome.Verdict.TheVariants.{Unsatisfiable, UnsatisfiableUnder, Unknown}
 use Rattle.checkpoint.specs.declared.saving.SaveFault.{SaveFault}
@@ -33,16 +28,12 @@ use Rattle.outcome_laws.specs.Laws.{OneCommandLine}
 use Rattle.outcome_laws.specs.Outcomes.{layout_in}
 use Rattle.outcome_laws.specs.Inconclusive.{FallsShort, HasStopped, InconclusiveBecause}
 use Rattle.outcome_laws.specs.Inconclusive.{no_report, not_kept, short, stopped, under_cube, unwritten}
-use Rattle.outcome_laws.specs.Valid.{AreValidAlone, AreValidRoundRobin, AreValidInOrder, AskForValidRounds, IsAskedOf, IsProvided}
-use Rattle.outcome_laws.specs.Valid.{IsRefutedAlone, IsRefutedRoundRobin, IsRefutedInOrder, RoundAsk}
-use Rattle.outcome_laws.specs.ValidLaws.{OutcomeOfValidOrders, OutcomeOfValidRounds, OutcomeOfValidTurns}
+use Rattle.outcome_laws.specs.Valid.{AreValidAlone, AskForValidRounds, IsAskedOf, IsProvided, IsRefutedAlone, RoundAsk}
+use Rattle.outcome_laws.specs.ValidLaws.{OutcomeOfValidRounds}
 use Rattle.outcome_laws.proofs.CheckLemmas.{Check, check_of, never_under}
 use Rattle.outcome_laws.proofs.OutcomeLemmas.{OneFormula, first_text}
 use Rattle.outcome_laws.proofs.ValidLemmas.{IsOfMachine, NoFormulaFault, of_machine, text_cnf}
-use Rattle.outcome_laws.proofs.StreamLemmas.{Cut, Either, EndsSo, IsLost, Lines, Lost, OnOne, Reason, RefutesSo, cut_first, ended_at}
-use Rattle.outcome_laws.proofs.StreamLemmas.{ends_alone}
-use Rattle.outcome_laws.proofs.StreamLemmas.{ends_round_robin, ends_in_order, refutes_alone, refutes_round_robin, refutes_in_order}
-use Rattle.outcome_laws.proofs.StreamLemmas.{stopped_is_open}
+use Rattle.outcome_laws.proofs.StreamLemmas.{EndsSo, IsLost, Lost, RefutesSo, cut_is_open, ended_at, ends_alone, refutes_alone}
 
 -- Faults
 
@@ -175,24 +166,21 @@ module _ {its : Effects} {given : CommandLine} {cube : CubeValue} (round : Round
   unsaved_asked : (asked : Text) × (left_at ≡ Some asked)
   unsaved_asked = asked_for its Saves round.verdict round.opened left_at fault round.next round.after leaves_unsaved
 
-module _ (Mode : Bool → Type 0) (Before Last : RoundAsk) (Why : Reason) (at : List Report → Lines) (ends_so : EndsSo Mode Before Why)
-    (refutes_so : RefutesSo Mode Last Why at)
+module _ (Before Last : RoundAsk) (s count : ℕ) (ends_so : EndsSo Before) (refutes_so : RefutesSo Last s count)
     (bare : EmptyCubeReported)
     (one_formula : OneFormula) (no_fault : NoFormulaFault) (alike : OneCommandLine) (files : FilesView) (words : List Text)
-    (last : ℕ) (ask : AskForValidRounds Before Last files words last)
-    (mode : (given : CommandLine) → IsCommandLineOf words given → Mode given.serial) where
+    (last : ℕ) (ask : AskForValidRounds Before Last files words last) where
   -- some stream of the round was stopped
   abbrev Stops : {given : CommandLine} {cube : CubeValue} → Round files.its given cube → Type 0
-  Stops round = HasStopped Why (at round.reports).0 (at round.reports).1 last round
+  Stops round = HasStopped s count last round
 
   -- a stream that was stopped hasn't ended
   unended : {given : CommandLine} {cube : CubeValue} (round : Round files.its given cube) → Stops round → ¬ HaveEnded round.reports
   unended {given} {cube} round stops ended =
-      stopped_is_open (Why (stream_params (run_params_by given cube round.formula round.sizes) stops.stream)) stops.report
-      (stops.line, stops.excused) (ended_at round.reports (stops.stream - 1) stops.report stops.says.1 ended)
+      cut_is_open stops.report (stops.line, stops.excused) (ended_at round.reports (stops.stream - 1) stops.report stops.says.1 ended)
 
   stops_early : {given : CommandLine} {cube : CubeValue} (round : Round files.its given cube) → round.number < last
-      → IsLost Why (run_params_by given cube round.formula round.sizes) round.reports → Stops round
+      → IsLost round.reports → Stops round
   stops_early round below lost = record {
     stream = lost.0;
     report = lost.1;
@@ -203,10 +191,9 @@ module _ (Mode : Bool → Type 0) (Before Last : RoundAsk) (Why : Reason) (at : 
   }
 
   stops_last : {given : CommandLine} {cube : CubeValue} (round : Round files.its given cube) → round.number ≡ last
-      → Lost Why (run_params_by given cube round.formula round.sizes) round.reports (at round.reports).0 (at round.reports).1
-      → Stops round
+      → Lost round.reports s count → Stops round
   stops_last round at_last lost = record {
-    stream = (at round.reports).0;
+    stream = s;
     report = lost.0;
     says = lost.1;
     line = lost.2.0;
@@ -261,13 +248,13 @@ module _ (Mode : Bool → Type 0) (Before Last : RoundAsk) (Why : Reason) (at : 
         let is = is_asked round before were few in
         let check = check_in Before Last last round is in
         elim (cases_lt round.number last) [
-          | inl below ↦ elim (ends_so files.its.Reader files.its.reading check (mode given line) is.cnf (is.asked.earlier below)) [
+          | inl below ↦ elim (ends_so files.its.Reader files.its.reading check is.cnf (is.asked.earlier below)) [
             | inl ended ↦ inl (below, ended)
             | inr lost ↦ inr (inr (stops_early round below lost))
           ]
           | inr above ↦
               let at_last : round.number ≡ last = omega (arith, above, few) in
-              elim (refutes_so files.its.Reader files.its.reading check (mode given line) is.cnf (is.asked.at_last at_last)) [
+              elim (refutes_so files.its.Reader files.its.reading check is.cnf (is.asked.at_last at_last)) [
                 | inl refuted ↦ inr (inl refuted)
                 | inr lost ↦ inr (inr (stops_last round at_last lost))
               ]
@@ -342,11 +329,11 @@ module _ (Mode : Bool → Type 0) (Before Last : RoundAsk) (Why : Reason) (at : 
         ]
 
   module _ (after : files.its.State) (out err : SinkChange) (status : ℕ) where
-    abbrev Goal : List Report → Type 0
-    Goal reports = (status ≡ 0) ⊎ InconclusiveBecause files words Why (at reports).0 (at reports).1 last after out err status
+    abbrev Goal : Type 0
+    Goal = (status ≡ 0) ⊎ InconclusiveBecause files words s count last after out err status
 
     abbrev Short : EndsWithReport files words after out err status → ℕ → Type 0
-    Short ends written = FallsShort Why (at ends.last.reports).0 (at ends.last.reports).1 last ends.last written
+    Short ends written = FallsShort s count last ends.last written
 
     few_of : (ends : EndsWithReport files words after out err status) → ends.last.number ≤ last
     few_of ends = few_rounds ends.given ends.command_line ends.cube ends.last ends.before ends.were
@@ -355,7 +342,7 @@ module _ (Mode : Bool → Type 0) (Before Last : RoundAsk) (Why : Reason) (at : 
     -- streams ended, or a stream was stopped
     streams_of : (ends : EndsWithReport files words after out err status) → ¬ (ends.last.verdict ≡ Unsatisfiable)
         → ((ends.last.number < last) × HaveEnded ends.last.reports)
-        ⊎ HasStopped Why (at ends.last.reports).0 (at ends.last.reports).1 last ends.last
+        ⊎ HasStopped s count last ends.last
     streams_of ends other =
         elim (fate ends.given ends.command_line ends.cube ends.last ends.before ends.were (few_of ends)) [
           | inl ended ↦ inl ended
@@ -383,7 +370,7 @@ module _ (Mode : Bool → Type 0) (Before Last : RoundAsk) (Why : Reason) (at : 
 
     reported_so : (ends : EndsWithReport files words after out err status)
         → (failed : Bool) → out.failed ≡ failed → status ≡ report_status failed ends.last.unsaved ends.last.verdict
-        → Goal ends.last.reports
+        → Goal
     reported_so ends true failed is =
         let why = short_so ends ends.last.unsaved refl ends.last.verdict refl in
         inr (unwritten ends failed (few_of ends) (elim why [
@@ -397,7 +384,7 @@ module _ (Mode : Bool → Type 0) (Before Last : RoundAsk) (Why : Reason) (at : 
         ]
 
     -- if there is no report, the cause is a fault of the machine
-    failed_so : (ends : EndsWithFault files words after out err status) → IsCauseIn files words ends.number ends.fault after → Goal []
+    failed_so : (ends : EndsWithFault files words after out err status) → IsCauseIn files words ends.number ends.fault after → Goal
     failed_so ends (inl first) =
         let machine = of_machine one_formula no_fault alike files words ask.asks after ends.fault first.1 in
         inr (no_report ends (omega (arith, first.0, ask.some)) (subst (λ (n : ℕ). (n ≡ 5) ⊎ (n ≡ 6)) (sym ends.status_is) machine))
@@ -410,37 +397,12 @@ module _ (Mode : Bool → Type 0) (Before Last : RoundAsk) (Why : Reason) (at : 
         cause.0 later.last.after after Before Last last provided ends.fault cause.2 in
         inr (no_report ends (omega (arith, later.number_is, below)) (subst (λ (n : ℕ). (n ≡ 5) ⊎ (n ≡ 6)) (sym ends.status_is) machine))
 
-    -- the last round's reports, or an empty list if a fault ended the run
-    abbrev pub reports_of : ProgramEnds files words after out err status → List Report
-    reports_of (inl ends) = ends.last.reports
-    reports_of (inr ends) = []
-
-    pub rounds_say : (ending : ProgramEnds files words after out err status) → Goal (reports_of ending)
+    pub rounds_say : ProgramEnds files words after out err status → Goal
     rounds_say (inl ends) = reported_so ends out.failed refl ends.status_is
     rounds_say (inr ends) = failed_so ends ends.cause
 
 pub outcome_of_valid_rounds : OneFormula → NoFormulaFault → EmptyCubeReported → OneCommandLine → ValidReported → ValidBegins
     → ValidEmpty → (files : FilesView) (last : ℕ) → OutcomeOfValidRounds files last
 outcome_of_valid_rounds one_formula no_fault bare alike reported begins empty files last words s count after out err status ask =
-    rounds_say Either AreValidAlone (IsRefutedAlone s count) Cut (λ reports. (s, count)) (ends_alone reported)
-    (refutes_alone begins empty s count) bare one_formula no_fault alike files words last ask (λ given line. tt) after out err
-    status
-
-pub outcome_of_valid_orders : OneFormula → NoFormulaFault → EmptyCubeReported → OneCommandLine → ValidTogether → TogetherBegins
-    → ValidEmpty → (files : FilesView) (last : ℕ) → OutcomeOfValidOrders files last
-outcome_of_valid_orders one_formula no_fault bare alike together begins empty files last words s count after out err status ask =
-    rounds_say Either AreValidInOrder (IsRefutedInOrder s count) Lacking (λ reports. (s, count)) (ends_in_order together)
-    (refutes_in_order begins empty s count) bare one_formula no_fault alike files words last ask (λ given line. tt) after
-    out err status
-
-pub outcome_of_valid_turn_rounds : OneFormula → NoFormulaFault → EmptyCubeReported → OneCommandLine → ValidRoundRobin → ValidEmpty
-    → (files : FilesView) (last : ℕ) → OutcomeOfValidTurns files last
-outcome_of_valid_turn_rounds one_formula no_fault bare alike round_robin empty files last words s after out err status ask on_one ending =
-    let on_one_so : (given : CommandLine) → IsCommandLineOf words given → given.serial ≡ true =
-    λ given line. line.said.serial ∙ sym ask.asks.command_line.said.serial ∙ on_one in
-    elim (rounds_say OnOne AreValidRoundRobin (IsRefutedRoundRobin s) Cut cut_first (ends_round_robin round_robin)
-    (refutes_round_robin round_robin empty s) bare one_formula no_fault alike files words last ask on_one_so after out err status
-    ending) [
-      | inl is ↦ inl is
-      | inr inconclusive ↦ inr (_, _, inconclusive)
-    ]
+    rounds_say AreValidAlone (IsRefutedAlone s count) s count (ends_alone reported) (refutes_alone begins empty s count) bare
+    one_formula no_fault alike files words last ask after out err status

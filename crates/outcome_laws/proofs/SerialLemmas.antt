@@ -1,34 +1,23 @@
 -- Runs on one thread.
-use Rattle.std.proofs.Common.{◌≡◌, ◌⊎◌, ◌-◌, ◌+◌, ◌<◌, ℕ, zero, suc, true, List, [], ◌∷◌, length, Some, inl, inr, refl, sym, ap, subst, ◌∙◌}
-use Rattle.std.proofs.Common.{arith, map}
-use Rattle.std.specs.Prelude.{slice_get}
-use Rattle.std.specs.List.{flat_map, Any}
+use Rattle.std.proofs.Common.{◌≡◌, ◌⊎◌, ℕ, List, Some, inl, inr, refl, sym, ap, subst, ◌∙◌}
 use Rattle.lrup_model.specs.Cube.{CubeValue}
-use Rattle.lrup_model.specs.Formula.{Cnf, IsCnf}
-use Rattle.lrup_model.specs.Layout.{LayoutValue, IsStream}
-use Rattle.lrup_text.specs.ReadOut.{SourceView}
-use Rattle.lrup_text.specs.Lines.{line_text}
+use Rattle.lrup_model.specs.Formula.{Cnf}
+use Rattle.lrup_model.specs.Layout.{LayoutValue}
 use Rattle.stream_check.specs.declared.report.Ending.{Ending}
 use Rattle.stream_check.specs.declared.report.Ending.TheVariants as endings
 use Rattle.stream_check.specs.declared.report.Report.{Report}
 use Rattle.stream_check.specs.Excuses.{CutOff, IsExcused}
-use Rattle.stream_check.specs.Turns.{IsRoundRobin, IsOrderedRoundRobin}
+use Rattle.stream_check.specs.Turns.{IsOrderedRoundRobin}
 use Rattle.stream_check.specs.Closed.{IsOfStream}
 use Rattle.stream_check.specs.Streams.{InputObservation, RunParamsValue}
-use Rattle.run_laws.specs.Groups.{IsRun, NoneExcused}
-use Rattle.run_laws.specs.Valid.{AddsEmpty, valid_report}
-use Rattle.run_laws.specs.ValidLaws.{ValidEmpty}
-use Rattle.run_laws.specs.Valid.{Step}
-use Rattle.run_laws.specs.Together.{IsValidOrder, lines_by}
-use Rattle.run_laws.specs.TurnsLaws.{BytesDecide, ValidRoundRobin}
+use Rattle.run_laws.specs.Groups.{IsRun}
+use Rattle.run_laws.specs.TurnsLaws.{BytesDecide}
 use Rattle.run_outcome.specs.Outcomes.{verdict_of}
-use Rattle.run_outcome.specs.declared.outcome.Verdict.TheVariants.{Unsatisfiable}
 use Rattle.command_line.specs.declared.sizes.Sizes.{Sizes}
 use Rattle.run_files.specs.Files.{FilesView}
-use Rattle.run_files.specs.Asked.{Text}
 use Rattle.outcome_laws.specs.Outcomes.{layout_in}
 use Rattle.outcome_laws.specs.Serial.{SerialOutcomesAgree}
-use Rattle.outcome_laws.proofs.CheckLemmas.{Check, turns_of, comes_to, entry_at, has_report, of_some, path_at, run_of, observed_of}
+use Rattle.outcome_laws.proofs.CheckLemmas.{turns_of, entry_at, path_at, run_of, observed_of}
 use Rattle.outcome_laws.proofs.OutcomeLemmas.{OneFormula, first_check, first_text}
 
 -- a run whose lines have an order that takes the streams in turn
@@ -89,61 +78,3 @@ by_ending (endings.Memory line) report is = inl (line, inl is)
 -- a report says that its stream was cut off, or doesn't
 pub said_of : (report : Report) → IsExcused CutOff report ⊎ ¬ IsExcused CutOff report
 said_of report = by_ending report.ending report refl
-
-all_fine : (r : Report) (reports : List Report) → ¬ IsExcused CutOff r
-    → ((k : ℕ) (report : Report) → slice_get reports k ≡ Some report → ¬ IsExcused CutOff report)
-    → (k : ℕ) (report : Report) → slice_get (r ∷ reports) k ≡ Some report → ¬ IsExcused CutOff report
-all_fine r reports fine none zero report at =
-    let same : r ≡ report = cc in subst (λ (x : Report). ¬ IsExcused CutOff x) same fine
-all_fine r reports fine none (suc k) report at = none k report at
-
--- some report says that its stream was cut off, or none does
-cut_at : (reports : List Report)
-    → ((k : ℕ) × (report : Report) × (slice_get reports k ≡ Some report) × IsExcused CutOff report)
-    ⊎ ((k : ℕ) (report : Report) → slice_get reports k ≡ Some report → ¬ IsExcused CutOff report)
-cut_at [] = inr (λ k report at. absurd (cc))
-cut_at (r ∷ reports) = elim (said_of r) [
-  | inl why ↦ inl (0, r, refl, why)
-  | inr fine ↦ elim (cut_at reports) [
-    | inl later ↦ inl (suc later.0, later.1, later.2, later.3)
-    | inr none ↦ inr (all_fine r reports fine none)
-  ]
-]
-
--- some stream was cut off
-abbrev pub SomeCut : List Report → Type 0
-SomeCut reports = (s : ℕ) × (report : Report) × IsOfStream reports s report × IsExcused CutOff report
-
-pub some_cut : (reports : List Report) → SomeCut reports ⊎ NoneExcused (λ s. true) CutOff reports
-some_cut reports = elim (cut_at reports) [
-  | inl cut ↦
-      let place : cut.0 ≡ cut.0 + 1 - 1 = omega arith in
-      inl (cut.0 + 1, cut.1, (omega arith, subst (λ (k : ℕ). slice_get reports k ≡ Some cut.1) place cut.2), cut.3)
-  | inr none ↦ inr (λ t report member at. none (t - 1) report at.1)
-]
-
--- Lines in a valid order that takes the streams in turn: if no stream was cut off, each has its
--- valid report.
-module _ {R : Type 0} (reading : SourceView R) (c : Check reading) (cnf : IsCnf c.formula) (valid : ValidRoundRobin)
-    (on_one : c.serial ≡ true)
-    (steps : List Step) (order : IsValidOrder c.formula c.run_params.layout steps) (turns : IsRoundRobin (map (λ step. step.stream) steps))
-    (contents : (t : ℕ) (path : Text) → IsOfStream c.paths t path → c.contents path ≡ Some (flat_map line_text (lines_by t steps)))
-    (fine : NoneExcused (λ s. true) CutOff c.reports) where
-  pub valid_round_robin : (s : ℕ) (report : Report) → IsOfStream c.reports s report
-      → report ≡ valid_report c.run_params s (lines_by s steps)
-  valid_round_robin s report says =
-      let texts : (t : ℕ) (observation : InputObservation) → IsOfStream (observed_of reading c) t observation
-      → observation.entry ≡ Some (flat_map line_text (lines_by t steps)) =
-      λ t observation at.
-      let path = path_at reading c t observation at in
-      entry_at reading c t observation path.0 (flat_map line_text (lines_by t steps)) at path.1 (contents t path.0 path.1) in
-      valid c.formula c.run_params steps (observed_of reading c) c.reports s report cnf c.fits order turns texts
-      (run_of reading c) (turns_of reading c on_one) fine says
-
-  pub round_robin_refutes : ValidEmpty → (s : ℕ) → Any AddsEmpty (lines_by s steps) → c.verdict ≡ Unsatisfiable
-  round_robin_refutes empty s refutes =
-      let some : 0 < length (lines_by s steps) = omega (arith, refutes.2) in
-      let stream : IsStream c.run_params.layout s = of_some s (IsStream c.run_params.layout) steps order.streams some in
-      let report = has_report c.formula c.run_params (observed_of reading c) c.reports (run_of reading c) s stream in
-      comes_to c.reports c.verdict s report.0 c.checked.is_verdict report.1
-      (ap (λ (r : Report). r.empty) (valid_round_robin s report.0 report.1) ∙ (empty c.run_params s (lines_by s steps)).1 refutes)

@@ -1,5 +1,5 @@
 -- Laws of outcomes. Each is the contract of a function in the module `laws`.
-use Rattle.std.specs.Prelude.{◌≡◌, ℕ, List, [], Some}
+use Rattle.std.specs.Prelude.{◌≡◌, ℕ, List, [], None, Some}
 use Rattle.lrup_model.specs.Cube.{CubeValue}
 use Rattle.lrup_model.specs.Event.{History}
 use Rattle.lrup_model.specs.Formula.{Cnf}
@@ -13,7 +13,7 @@ use Rattle.stream_check.specs.Closed.{IsOfStream, CiteWithin}
 use Rattle.stream_check.specs.Streams.{InputObservation, RunParamsValue}
 use Rattle.run_laws.specs.Groups.{one, IsRun}
 use Rattle.run_outcome.specs.ReportText.{stream_line}
-use Rattle.command_line.specs.CommandLine.{IsCommandLineOf}
+use Rattle.command_line.specs.CommandLine.{IsCommandLineOf, rounds_of}
 use Rattle.command_line.specs.declared.words.CommandLine.{CommandLine}
 use Rattle.run_files.specs.Files.{FilesView, WasReadIn}
 use Rattle.command.specs.Commands.{SinkChange}
@@ -59,12 +59,18 @@ OneCommandLine = (words : List Text) (given other : CommandLine) → IsCommandLi
     → (other.tries ≡ given.tries) × (sizes_of other ≡ sizes_of given)
     × (other.streams ≡ given.streams) × (other.formula.now ≡ given.formula.now)
 
+-- A run whose words ask for no rounds consists of round 1: no round comes before the last one.
+abbrev pub OneRoundAlone : FilesView → Type 0
+OneRoundAlone files = (given : CommandLine) (cube : CubeValue)
+    (last : Round files.its given cube) (before : List (Round files.its given cube))
+    → rounds_of given.next ≡ None → WereRounds files given cube last before → before ≡ []
+
 -- Suppose that two runs of the program have the same tries and sizes, and that each of two files,
 -- the formula's and that of stream s, is known to have the same bytes in both runs. If this stream
 -- cites only its own clauses and the formula's, it has the same report line in round 1 of both
 -- runs, unless one of its reports says that memory ran out or a read failed. The other streams'
 -- files, the assumed literals and the use of threads make no difference. A run without rounds
--- consists of round 1.
+-- consists of round 1 (`OneRoundAlone`).
 abbrev pub OutcomesAgree : FilesView → FilesView → Type 0
 OutcomesAgree files others =
     (given other_given : CommandLine) (cube other_cube : CubeValue)

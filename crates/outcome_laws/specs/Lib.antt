@@ -5,4 +5,3 @@ pub mod Inconclusive
 pub mod ValidLaws
 pub mod Serial
 pub mod Refuting
-pub mod Printed

@@ -27,7 +27,7 @@ pub record AskForSameTurns (files : FilesView) (others : FilesView)
 
 -- In round 1 of two runs of such command lines, under the same assumed literals, the reports are
 -- the same, and so are the verdicts, unless a report says that memory ran out or a read failed. A
--- run without rounds consists of round 1.
+-- run without rounds consists of round 1 (`OneRoundAlone`).
 abbrev pub SerialOutcomesAgree : FilesView → FilesView → Type 0
 SerialOutcomesAgree files others =
     (given other_given : CommandLine) (cube other_cube : CubeValue)

@@ -1,20 +1,16 @@
 -- Words that ask for streams that are valid proofs (this project's own).
-use Rattle.std.specs.Prelude.{◌≡◌, ◌≢◌, ◌++◌, ◌+◌, ◌<◌, ◌≤◌, ◌^◌, ℕ, Bool, IsTrue, IfSome, List, length, map, Option, Some}
-use Rattle.std.specs.List.{AllByRecursion, Any, flat_map}
+use Rattle.std.specs.Prelude.{◌≡◌, ◌≢◌, ◌+◌, ◌<◌, ◌≤◌, ◌^◌, ℕ, IfSome, List, length, Option, Some}
 use Rattle.lrup_model.specs.Cube.{CubeValue}
 use Rattle.lrup_model.specs.Formula.{Cnf}
 use Rattle.lrup_model.specs.Layout.{IsFault, LayoutValue}
 use Rattle.lrup_model.specs.declared.layout.LayoutFault.{LayoutFault}
-use Rattle.lrup_text.specs.Lines.{StreamLine, line_text}
+use Rattle.lrup_text.specs.Lines.{StreamLine}
 use Rattle.lrup_text.specs.Cubes.{IsCubeFault}
 use Rattle.lrup_text.specs.declared.cube.CubeFault.{CubeFault}
 use Rattle.lrup_text.specs.declared.cube.CubeFault.TheVariants as cubes
 use Rattle.dimacs.specs.FormulaText.{IsFormulaText}
 use Rattle.stream_check.specs.Closed.{IsOfStream}
-use Rattle.stream_check.specs.Turns.{IsRoundRobin}
-use Rattle.run_laws.specs.Valid.{AddsEmpty, IsValidRefutation, IsValidProof}
-use Rattle.run_laws.specs.Valid.{Step}
-use Rattle.run_laws.specs.Together.{IsValidOrder, lines_by}
+use Rattle.run_laws.specs.Valid.{IsValidRefutation, IsValidProof}
 use Rattle.command_line.specs.CommandLine.{IsCommandLineOf, rounds_of}
 use Rattle.command_line.specs.declared.sizes.Sizes.{Sizes}
 use Rattle.command_line.specs.declared.words.CommandLine.{CommandLine}
@@ -59,37 +55,6 @@ abbrev pub IsRefutedAlone : (s count : ℕ) → RoundAsk
 IsRefutedAlone s count formula layout contents paths =
     (path : Text) × (bytes : List ℕ) × IsOfStream paths s path × (contents path ≡ Some bytes)
     × ((valid : IsValidRefutation formula layout s bytes) × (length valid.lines ≤ count))
-
--- lines of the streams have a valid order, and the file of each stream holds the texts of its
--- lines, and nothing else
-abbrev pub AreValidInOrder : RoundAsk
-AreValidInOrder formula layout contents paths =
-    (steps : List Step) × IsValidOrder formula layout steps
-    × ((s : ℕ) (path : Text) → IsOfStream paths s path
-    → contents path ≡ Some (flat_map line_text (lines_by s steps)))
-
--- `AreValidInOrder` holds, with an order that takes the streams in turn
-abbrev pub AreValidRoundRobin : RoundAsk
-AreValidRoundRobin formula layout contents paths =
-    (valid : AreValidInOrder formula layout contents paths)
-    × IsRoundRobin (map (λ step. step.stream) valid.0)
-
--- `AreValidRoundRobin` holds, and a line of stream s adds the empty clause
-abbrev pub IsRefutedRoundRobin : ℕ → RoundAsk
-IsRefutedRoundRobin s formula layout contents paths =
-    (valid : AreValidRoundRobin formula layout contents paths)
-    × Any AddsEmpty (lines_by s valid.0.0)
-
--- lines of a set of streams have a valid order, the streams' files begin with the texts of these
--- lines, and some line of stream s, which has at most `count` of these lines, adds the empty
--- clause; nothing is required of the other streams
-abbrev pub IsRefutedInOrder : (s count : ℕ) → RoundAsk
-IsRefutedInOrder s count formula layout contents paths =
-    (set : ℕ → Bool) × (steps : List Step) × IsValidOrder formula layout steps
-    × AllByRecursion (λ step. IsTrue (set step.stream)) steps
-    × ((t : ℕ) (path : Text) → IsTrue (set t) → IsOfStream paths t path
-    → (more : List ℕ) × (contents path ≡ Some (flat_map line_text (lines_by t steps) ++ more)))
-    × Any AddsEmpty (lines_by s steps) × (length (lines_by s steps) ≤ count)
 
 -- the round with this number meets `Before` if it comes before the last round, and `Last` if it is
 -- the last

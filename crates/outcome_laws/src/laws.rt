@@ -1,10 +1,9 @@
 //! Laws of outcomes. Each function does nothing; its contract is the law.
 ghost use Rattle.std.specs.Prelude.{ℕ};
-ghost use Rattle.outcome_laws.specs.Laws.{CubeIsIrrelevant, SameBytesSameReport, OneCommandLine, OutcomesAgree, Status0HasACommandLine};
-ghost use Rattle.outcome_laws.specs.Printed.{NoBadLineShown};
+ghost use Rattle.outcome_laws.specs.Laws.{CubeIsIrrelevant, SameBytesSameReport, OneCommandLine, OneRoundAlone, OutcomesAgree, Status0HasACommandLine};
 ghost use Rattle.outcome_laws.specs.Refuting.{OutcomesRefute, OutcomesRefuteUnder};
 ghost use Rattle.outcome_laws.specs.Serial.{SerialOutcomesAgree};
-ghost use Rattle.outcome_laws.specs.ValidLaws.{OutcomeOfValidOrders, OutcomeOfValidRounds, OutcomeOfValidTurns};
+ghost use Rattle.outcome_laws.specs.ValidLaws.{OutcomeOfValidRounds};
 
 use checkpoint::laws::{
     entails_itself, entails_onward, files_refute, files_refute_under, refutes_back,
@@ -13,8 +12,8 @@ use checkpoint::laws::{
 use command::{Machine, Viewed};
 use dimacs::laws::{formula_or_fault, one_formula};
 use run_laws::groups::same_bytes_agree;
-use run_laws::turns::{bytes_decide, valid_round_robin};
-use run_laws::valid::{together_begins, valid_begins, valid_empty, valid_reported, valid_together};
+use run_laws::turns::bytes_decide;
+use run_laws::valid::{valid_begins, valid_empty, valid_reported};
 use stream_check::laws::empty_cube_reported;
 
 /// If a stream is judged under a cube, it can also be judged without a cube, with a report that is
@@ -39,11 +38,16 @@ pub fn one_command_line()
     ensures { OneCommandLine }
 {}
 
+/// A run whose words ask for no rounds consists of round 1.
+pub fn one_round_alone<F: Machine>(files: &F)
+    ensures { OneRoundAlone (⟦<F as Viewed>⟧.view files.now) }
+{}
+
 /// Take two runs of the program with the same tries and sizes, and a stream that cites only its own
 /// clauses and the formula's. If each of the two files, the formula's and the stream's, is known to
 /// have the same bytes before both runs, the stream has the same line in round 1 of both, unless a
 /// report of the stream says that memory ran out or a read failed. A run without rounds consists of
-/// round 1.
+/// round 1 (`one_round_alone`).
 pub fn outcomes_agree<F: Machine, G: Machine>(files: &F, others: &G)
     ensures { OutcomesAgree (⟦<F as Viewed>⟧.view files.now) (⟦<G as Viewed>⟧.view others.now) }
 {
@@ -64,7 +68,7 @@ pub fn status_0_has_a_command_line<F: Machine>(files: &F)
 /// Take two runs of the program on one thread with the same tries, sizes and assumed literals. If
 /// each of the files, the formula's and the streams', is known to have the same bytes before both
 /// runs, the reports and the verdicts of round 1 are the same, unless some report says that memory
-/// ran out or a read failed. A run without rounds consists of round 1.
+/// ran out or a read failed. A run without rounds consists of round 1 (`one_round_alone`).
 pub fn serial_outcomes_agree<F: Machine, G: Machine>(files: &F, others: &G)
     ensures { SerialOutcomesAgree (⟦<F as Viewed>⟧.view files.now)
         (⟦<G as Viewed>⟧.view others.now) }
@@ -94,38 +98,6 @@ pub fn outcome_of_valid_rounds<F: Machine>(files: &F)
     valid_empty();
 }
 
-/// Suppose that in each round before the last one, lines of all streams have a valid order, and
-/// that in the last round, lines of some streams have a valid order in which one of them adds the
-/// empty clause. Then the program ends as `outcome_of_valid_rounds` says; but a stream may also
-/// have stopped because one of these lines cites another stream's clause that wasn't there yet or
-/// was no longer there.
-pub fn outcome_of_valid_orders<F: Machine>(files: &F)
-    ensures { (last : ℕ) → OutcomeOfValidOrders (⟦<F as Viewed>⟧.view files.now) last }
-{
-    one_formula();
-    formula_or_fault();
-    empty_cube_reported();
-    one_command_line();
-    valid_together();
-    together_begins();
-    valid_empty();
-}
-
-/// Suppose that the words ask for one thread, that in each round lines of all streams have a valid
-/// order that takes the streams in turn, and that in the last round some stream adds the empty
-/// clause. Then the program ends as `outcome_of_valid_rounds` says, but in the last round, too,
-/// memory may have run out or a read may have failed in any stream.
-pub fn outcome_of_valid_turn_rounds<F: Machine>(files: &F)
-    ensures { (last : ℕ) → OutcomeOfValidTurns (⟦<F as Viewed>⟧.view files.now) last }
-{
-    one_formula();
-    formula_or_fault();
-    empty_cube_reported();
-    one_command_line();
-    valid_round_robin();
-    valid_empty();
-}
-
 /// Suppose that a stream of round 1 (without `--rounds`, of the whole run) is a valid refutation.
 /// Then the program ends with status 0; with 7, because the report couldn't be written; with 5 or
 /// 6, for a fault of the machine; with 3 or 8, because memory ran out or a read failed in the
@@ -135,37 +107,6 @@ pub fn outcome_of_valid_refutation<F: Machine>(files: &F)
     ensures { OutcomeOfValidRounds (⟦<F as Viewed>⟧.view files.now) 1 }
 {
     outcome_of_valid_rounds(files);
-}
-
-/// If a stream of round 1 is a valid refutation, no bad line of that stream is printed, except with
-/// status 0, or with 7 if the report says 'unsatisfiable'. Only the law
-/// `outcome_of_valid_refutation` is needed for this: with status 5 or 6 nothing is printed, and
-/// each other report says that the machine stopped the stream.
-pub fn no_bad_line_shown<F: Machine>(files: &F)
-    ensures { NoBadLineShown (⟦<F as Viewed>⟧.view files.now) }
-{
-    outcome_of_valid_refutation(files);
-}
-
-/// Suppose that in round 1 lines of streams have a valid order, and that one of the lines adds the
-/// empty clause. Then the program ends as `outcome_of_valid_refutation` says; or it ends with 3 or
-/// 8, or 9 in their place, because one of these lines cites another stream's clause that wasn't
-/// there yet or was no longer there.
-pub fn outcome_of_valid_order<F: Machine>(files: &F)
-    ensures { OutcomeOfValidOrders (⟦<F as Viewed>⟧.view files.now) 1 }
-{
-    outcome_of_valid_orders(files);
-}
-
-/// Suppose that in round 1, on one thread, lines of all streams have a valid order that takes the
-/// streams in turn, and that one of the lines adds the empty clause. Then the program ends with
-/// status 0; with 7, because the report couldn't be written; with 5 or 6, for a fault of the
-/// machine; or with 3 or 8, or 9 in their place, because memory ran out in some stream or a read of
-/// some stream failed.
-pub fn outcome_of_valid_turns<F: Machine>(files: &F)
-    ensures { OutcomeOfValidTurns (⟦<F as Viewed>⟧.view files.now) 1 }
-{
-    outcome_of_valid_turn_rounds(files);
 }
 
 /// Suppose that several runs of the program, each of one round or more, follow one another: each

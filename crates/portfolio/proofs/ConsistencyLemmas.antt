@@ -1,5 +1,5 @@
 -- The one history of a run with threads, and what it says about the reports.
-use Rattle.std.proofs.Common.{◌≡◌, ℕ, zero, suc, ◌+◌, ◌-◌, ◌<◌, ◌≤◌, true, false, List, [], ◌∷◌, ◌++◌, length, map}
+use Rattle.std.proofs.Common.{◌≡◌, ℕ, zero, suc, ◌+◌, ◌-◌, ◌<◌, ◌≤◌, true, List, [], ◌∷◌, ◌++◌, length, map}
 use Rattle.std.proofs.Common.{take}
 use Rattle.std.proofs.Common.{Some, refl, sym, ap, ap₂, subst, ◌∙◌, arith, append-nil}
 use Rattle.std.specs.Prelude.{IsSome, IsSomeAnd, Option, None, slice_get}
@@ -22,7 +22,7 @@ use Rattle.stream_check.specs.Reaching.{ReachesState}
 use Rattle.stream_check.specs.DroppedIdsValue.{DroppedIdsValue}
 use Rattle.stream_check.specs.StreamParams.{StreamParams}
 use Rattle.stream_check.specs.Dropping.{HasDropped, HaveDropped}
-use Rattle.run_outcome.specs.Histories.{IsRunOf, IsRunOfSome}
+use Rattle.run_outcome.specs.Histories.{AreReadOut, IsRunOf, IsRunOfSome}
 use Rattle.run_outcome.specs.RingStops.{StopsAtRing}
 use Rattle.stream_check.specs.Each.{Each, EachOfThree}
 use Rattle.stream_check.specs.lemmas.EachLemmas.{each_count, each_take, zip_count}
@@ -372,8 +372,8 @@ module _ {S : Type 0} (view : SourceView S) where
       (results : StreamResultsValue S) (vs : List View)
       → (so : AreResults view js results) → Judged run_params 1 firsts so.found vs → IsLegal f run_params.layout h
       → ((k : ℕ) (v : View) → slice_get vs k ≡ Some v → v.mine ≡ own h (1 + k))
-      → (ran : IsRunOfSome (length firsts) false view f run_params firsts results.readers results.reports results.dropped)
-      × (ran.run.history ≡ h)
+      → (ran : IsRunOfSome (length firsts) view f run_params firsts results.readers results.reports results.dropped)
+      × (ran.run.history ≡ h) × AreReadOut ran.run.streams
   first_run f run_params h firsts js results vs so j legal calls =
       rw (so.readers, so.reports, so.dropped) (
         record {
@@ -385,11 +385,11 @@ module _ {S : Type 0} (view : SourceView S) where
             legal = legal;
             judged = judged_in run_params h 1 j.streams vs (map (λ x. x.report) so.found) j.judged calls;
           };
-          way = j.out;
           read = j.read;
           have_dropped = j.dropped h calls;
         },
         refl,
+        j.out,
       )
 
   -- ---- the run as a whole
@@ -423,13 +423,13 @@ module _ {S : Type 0} (view : SourceView S) where
       → IsBegun f run_params store firsts js
       → (results : StreamResultsValue S) (vs : List View) → AreResults view js results → AreSynced (views results.passes) vs
       → ShareHistory vs
-      → (ran : IsRunOf false view f run_params firsts results.readers results.reports results.dropped)
-      × (ran.run.history ≡ seen_by vs)
+      → (ran : IsRunOf view f run_params firsts results.readers results.reports results.dropped)
+      × (ran.run.history ≡ seen_by vs) × AreReadOut ran.run.streams
   run_reports {f} {run_params} {store} {firsts} {js} begun results vs so synced one =
       let one = run_history begun results vs so synced one in
       let j = judged_by f run_params store begun.store_is 1 firsts js so.found vs begun.ready so.finish (met js results vs so synced) in
-      subst (λ (n : ℕ). (ran : IsRunOfSome n false view f run_params firsts results.readers results.reports results.dropped)
-      × (ran.run.history ≡ seen_by vs)) begun.count
+      subst (λ (n : ℕ). (ran : IsRunOfSome n view f run_params firsts results.readers results.reports results.dropped)
+      × (ran.run.history ≡ seen_by vs) × AreReadOut ran.run.streams) begun.count
       (first_run f run_params (seen_by vs) firsts js results vs so j one.legal (mine_at f run_params.layout vs one))
 
   -- If the passes of the first streams have met, there is a run of only these streams.
@@ -438,7 +438,7 @@ module _ {S : Type 0} (view : SourceView S) where
       → (results : StreamResultsValue S) (vs : List View) → AreResults view js results → AreSynced (views results.passes) vs
       → ShareHistory vs
       → (lasts : List S) × (reports : List Report) × (dropped : List DroppedIdsValue)
-      × IsRunOfSome (length firsts) false view f run_params firsts lasts reports dropped
+      × (ran : IsRunOfSome (length firsts) view f run_params firsts lasts reports dropped) × AreReadOut ran.run.streams
   run_before f run_params store same [] [] ready results vs so synced one = (
     [],
     [],
@@ -452,10 +452,10 @@ module _ {S : Type 0} (view : SourceView S) where
         legal = record { events = tt; room = λ s. omega arith };
         judged = tt;
       };
-      way = tt;
       read = tt;
       have_dropped = tt;
     },
+    tt,
   )
   run_before f run_params store same [] (j ∷ js) ready results vs so synced one = absurd ready
   run_before f run_params store same (e ∷ es) [] ready results vs so synced one = absurd ready
@@ -465,12 +465,9 @@ module _ {S : Type 0} (view : SourceView S) where
       let judged = judged_by f run_params store same 1 (e ∷ es) (j ∷ js) fs vs ready so.finish synced in
       let calls = have_calls f run_params store one.0 same 1 (e ∷ es) (j ∷ js) fs vs ready so.finish synced one.1 in
       let legal =
-      have_legal f run_params store one.0 same 1 (e ∷ es) (j ∷ js) fs vs ready so.finish synced one.1 (omega arith) in (
-        results.readers,
-        results.reports,
-        results.dropped,
-        (first_run f run_params one.0 (e ∷ es) (j ∷ js) results vs so judged legal (λ k v at. (calls k v at).2)).0,
-      )
+      have_legal f run_params store one.0 same 1 (e ∷ es) (j ∷ js) fs vs ready so.finish synced one.1 (omega arith) in
+      let ran = first_run f run_params one.0 (e ∷ es) (j ∷ js) results vs so judged legal (λ k v at. (calls k v at).2) in
+      (results.readers, results.reports, results.dropped, ran.0, ran.2)
 
   -- the reader was read to its end, or to the read that failed, and a stream matches what is
   -- observed of the reader. This holds for each reader whose mark was missed.
@@ -512,12 +509,15 @@ module _ {S : Type 0} (view : SourceView S) where
       (each_take _ (stream - 1) 1 firsts js begun.ready) results vs at.0 synced one in
       let many : length (take (stream - 1) firsts) ≡ stream - 1 =
       length-take-le (stream - 1) firsts (omega (arith, within, begun_count begun, begun.count)) in
+      let before = subst (λ (k : ℕ). (earlier : IsRunOfSome k view f run_params (take (stream - 1) firsts) ran.0 ran.1 ran.2)
+      × AreReadOut earlier.run.streams) many (ran.3, ran.4) in
       record {
         is_stream = stream_within begun stream (omega (arith, is), omega (arith, is, within));
         lasts = ran.0;
         reports = ran.1;
         dropped = ran.2;
-        before = subst (λ (k : ℕ). IsRunOfSome k false view f run_params (take (stream - 1) firsts) ran.0 ran.1 ran.2) many ran.3;
+        before = before.0;
+        before_end = before.1;
         read_out = reader_read_out f run_params store 1 firsts js (stream - 1) begun.ready
             (read_out_of (slice_get js (stream - 1)) at.1);
       }

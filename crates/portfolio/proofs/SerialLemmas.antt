@@ -11,13 +11,14 @@ use Rattle.stream_check.specs.Streams.{RunParamsValue, blocks_of, events_in}
 use Rattle.stream_check.specs.lemmas.DroppingLemmas.{dropped_more}
 use Rattle.stream_turns.specs.Results.{AreCheckedInTurn}
 use Rattle.run_laws.specs.lemmas.OwnLemmas.{ordered_judged, own-blocks}
-use Rattle.run_outcome.specs.Histories.{IsRunOf}
+use Rattle.run_outcome.specs.Histories.{IsRunOf, TakeTurns}
 
 -- streams that were checked in turn make a run, and the map holds what its history leaves
 pub run_in_turn : {S : Type 0} (view : SourceView S) (f : Cnf) (run_params : RunParamsValue) (firsts lasts : List S)
     (reports : List Report) (dropped : List DroppedIdsValue) (m : Plain)
     → AreCheckedInTurn view f run_params firsts lasts reports dropped m
-    → (ran : IsRunOf true view f run_params firsts lasts reports dropped) × (plain_state m ≡ state f ran.run.history)
+    → (ran : IsRunOf view f run_params firsts lasts reports dropped) × (plain_state m ≡ state f ran.run.history)
+    × TakeTurns f run_params ran.run.history ran.run.streams reports
 run_in_turn view f run_params firsts lasts reports dropped m checked =
     let order = checked.ordered.order in (
       record {
@@ -29,11 +30,11 @@ run_in_turn view f run_params firsts lasts reports dropped m checked =
           legal = order.legal;
           judged = ordered_judged run_params (λ s. true) (λ s. true) order.blocks 1 checked.streams reports order.within order.judged;
         };
-        way = (checked.ordered, refl);
         read = checked.read;
         have_dropped = dropped_more run_params (λ s events. events ≡ blocks_of s order.blocks) _
             (λ s events is. own-blocks run_params.layout (λ t. true) s order.blocks order.within ∙ ap joined (sym is)) 1 checked.streams
             reports dropped checked.have_dropped;
       },
       checked.clauses,
+      (checked.ordered, refl),
     )

@@ -9,7 +9,7 @@ ghost use Rattle.lrup_model.specs.Plain.{formula_of, plain_state};
 ghost use Rattle.lrup_model.specs.State.{state};
 ghost use Rattle.stream_check.specs.Readings.{readers_view};
 ghost use Rattle.run_laws.specs.Groups.{AreIsolated};
-ghost use Rattle.run_outcome.specs.Histories.{IsRunOf};
+ghost use Rattle.run_outcome.specs.Histories.{IsRunOf, TakeTurns};
 ghost use Rattle.run_outcome.specs.Outcomes.{layout_of, run_params_of, verdict_of};
 
 use lrup_model::{Cube, Formula, PlainMap};
@@ -44,16 +44,16 @@ pub fn run_serial<W: Wait, R: Source + Drop, G: Gate + Drop>(
         ↔ IsFault (layout_of options formula.now (length readers.items)) fault }
     ensures no_threads { (stream : ℕ) → (result ≢ Err (RunFault.Spawn stream))
         × (result ≢ Err (RunFault.Ring stream)) }
-    // There is a run on one thread (`true`) with this outcome, over the readers' bytes and what
-    // their reads gave. Its history is the history of an order of lines that takes one line of each
-    // stream in turn. The map is as the history leaves it. The run's groups of streams are
-    // isolated.
+    // There is a run with this outcome, over the readers' bytes and what their reads gave. The map
+    // is as the run's history leaves it. The run's groups of streams are isolated. The history is
+    // the history of an order of lines that takes one line of each stream in turn.
     ensures ordered { let run_params = run_params_of options cube.now formula.now
         (length readers.items) in
-        IfOk result (λ outcome. (ran : IsRunOf true (readers_view R.Source) formula.now run_params
+        IfOk result (λ outcome. (ran : IsRunOf (readers_view R.Source) formula.now run_params
         readers.items outcome.readers.items outcome.reports.items outcome.dropped.items)
-        × ((plain_state outcome.map ≡ state formula.now ran.run.history)
-        × AreIsolated ran.run)) }
+        × ((plain_state outcome.map ≡ state formula.now ran.run.history) × AreIsolated ran.run
+        × TakeTurns formula.now run_params ran.run.history ran.run.streams
+        outcome.reports.items)) }
     ensures verdict { IfOk result (λ outcome.
         outcome.verdict ≡ verdict_of outcome.reports.items) }
     // The outcome keeps the clauses, so that they can be saved.

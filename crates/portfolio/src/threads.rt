@@ -12,7 +12,7 @@ ghost use Rattle.stream_check.specs.Each.{Each};
 ghost use Rattle.stream_check.specs.Readings.{readers_view};
 ghost use Rattle.stream_check.specs.SequentialConsistency.{HaveOneHistory, seen_by};
 ghost use Rattle.stream_threads.specs.Jobs.{IsJob, StreamResultsValue};
-ghost use Rattle.run_outcome.specs.Histories.{IsRunOf};
+ghost use Rattle.run_outcome.specs.Histories.{AreReadOut, IsRunOf};
 ghost use Rattle.run_outcome.specs.Outcomes.{layout_of, run_params_of, verdict_of};
 ghost use Rattle.run_outcome.specs.RingStops.{StopsAtRing};
 ghost use Rattle.run_laws.specs.Groups.{AreIsolated};
@@ -71,15 +71,15 @@ pub fn run<T: Threads + Wait + Sync, R: Source + Send + Drop, G: Gate + Send + D
     ensures history { IfOk result (λ outcome. let passes = views outcome.passes.items in
         HaveOneHistory formula.now (layout_of options formula.now (length readers.items))
         (seen_by passes) passes) }
-    // There is a run with threads (`false`), with that history and this outcome, over the readers'
-    // bytes and what their reads gave. The run's groups of streams are isolated, and its lines are
-    // serializable.
+    // There is a run with that history and this outcome, over the readers' bytes and what their
+    // reads gave. The run's groups of streams are isolated, its lines are serializable, and its
+    // streams were read to their ends.
     ensures reports { let run_params = run_params_of options cube.now formula.now
         (length readers.items) in
-        IfOk result (λ outcome. (ran : IsRunOf false (readers_view R.Source) formula.now run_params
+        IfOk result (λ outcome. (ran : IsRunOf (readers_view R.Source) formula.now run_params
         readers.items outcome.readers.items outcome.reports.items outcome.dropped.items)
         × ((ran.run.history ≡ seen_by (views outcome.passes.items)) × AreIsolated ran.run
-        × IsSerializable ran.run)) }
+        × IsSerializable ran.run × AreReadOut ran.run.streams)) }
     ensures verdict { IfOk result (λ outcome.
         outcome.verdict ≡ verdict_of outcome.reports.items) }
     // The outcome keeps the clauses, so that they can be saved.

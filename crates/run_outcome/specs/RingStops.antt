@@ -1,5 +1,5 @@
 -- A run that the ring of a stream stopped (this project's own).
-use Rattle.std.specs.Prelude.{◌-◌, ℕ, false, List, IsSome, IsSomeAnd, slice_get, take}
+use Rattle.std.specs.Prelude.{◌-◌, ℕ, List, IsSome, IsSomeAnd, slice_get, take}
 use Rattle.lrup_model.specs.Formula.{Cnf}
 use Rattle.lrup_model.specs.Layout.{IsStream}
 use Rattle.lrup_text.specs.ReadOut.{SourceView}
@@ -7,7 +7,7 @@ use Rattle.stream_check.specs.Readings.{IsStreamOf}
 use Rattle.stream_check.specs.Streams.{Stream, RunParamsValue}
 use Rattle.stream_check.specs.DroppedIdsValue.{DroppedIdsValue}
 use Rattle.stream_check.specs.declared.report.Report.{Report}
-use Rattle.run_outcome.specs.Histories.{IsRunOfSome}
+use Rattle.run_outcome.specs.Histories.{IsRunOfSome, AreReadOut}
 
 -- A run that the ring of this stream stopped. The streams before this one form a run on what their
 -- readers delivered, for some reports. The reader of this stream, like theirs, was read to its end,
@@ -18,7 +18,8 @@ pub record StopsAtRing {S : Type 0} (view : SourceView S) (formula : Cnf)
   pub lasts : List S
   pub reports : List Report
   pub dropped : List DroppedIdsValue
-  pub before : IsRunOfSome (stream - 1) false view formula run_params
-      (take (stream - 1) firsts) lasts reports dropped
+  pub before : IsRunOfSome (stream - 1) view formula run_params (take (stream - 1) firsts) lasts
+      reports dropped
+  pub before_end : AreReadOut before.run.streams
   pub read_out : IsSomeAnd (slice_get firsts (stream - 1)) (λ reader. (last : S) × (its : Stream)
       × IsSome its.end × IsStreamOf view reader last its)

@@ -1,5 +1,6 @@
 -- Lemmas about assignments, entailment and hinted propagation.
-use Rattle.std.proofs.Common.{◌⊎◌, ℕ, zero, suc, ◌-◌, ◌<◌, ◌≤◌, ℤ, pos, negsuc, neg_ℤ, nat_abs, List, [], ◌∷◌, ◌++◌, length, refl, sym, subst, ◌∙◌, inl, inr, arith}
+use Rattle.std.proofs.Common.{◌≡◌, ◌⊎◌, ℕ, Bool, true, false, zero, suc, ◌-◌, ◌<◌, ◌≤◌, ℤ, pos, negsuc, neg_ℤ, nat_abs, List, [], ◌∷◌, ◌++◌, length, refl, sym, subst, ◌∙◌, inl, inr, arith}
+use Rattle.std.specs.Int.{is_positive}
 use Rattle.std.specs.List.{AllByRecursion}
 use Rattle.std.proofs.lemmas.Bool.{cases_Bool, cases_eq, cases_lt, true≢false}
 use Rattle.std.proofs.lemmas.List.Elements.{All-from_recursion}
@@ -20,23 +21,28 @@ use Rattle.lrup_model.specs.declared.clause_map.Retired.TheVariants as retiring
 
 -- Literals and clauses under an assignment
 
+pub is_positive-pos : (v : ℕ) → is_positive (pos (suc v)) ≡ true
+is_positive-pos v = grind arith
+
+pub is_positive-negsuc : (v : ℕ) → is_positive (negsuc v) ≡ false
+is_positive-negsuc v = grind arith
+
 pub decide_literal : (a : Assignment) (l : ℤ) → MakesTrue a l ⊎ (MakesTrue a l → ⊥)
-decide_literal a (pos v) =
-    elim (cases_Bool (a v)) [
-      | inl truth ↦ inl truth
-      | inr untrue ↦ inr (λ truth. true≢false (sym truth ∙ untrue))
-    ]
-decide_literal a (negsuc v) =
-    elim (cases_Bool (a (suc v))) [
-      | inl truth ↦ inr (λ untrue. true≢false (sym truth ∙ untrue))
-      | inr untrue ↦ inl untrue
-    ]
+decide_literal a l = decide_same (a (nat_abs l)) (is_positive l)
+  where
+    decide_same : (b c : Bool) → (b ≡ c) ⊎ (b ≡ c → ⊥)
+    decide_same true true = inl refl
+    decide_same true false = inr true≢false
+    decide_same false true = inr (λ same. true≢false (sym same))
+    decide_same false false = inl refl
 
 -- a literal and its complement aren't both true
 pub not_both : (a : Assignment) (l : ℤ) → 0 < nat_abs l → MakesTrue a l → MakesTrue a (neg_ℤ l) → ⊥
 not_both a (pos zero) some truth untrue = omega (arith, some)
-not_both a (pos (suc v)) some truth untrue = true≢false (sym truth ∙ untrue)
-not_both a (negsuc v) some truth untrue = true≢false (sym untrue ∙ truth)
+not_both a (pos (suc v)) some truth untrue =
+    true≢false (sym (is_positive-pos v) ∙ sym truth ∙ untrue ∙ is_positive-negsuc v)
+not_both a (negsuc v) some truth untrue =
+    true≢false (sym (is_positive-pos v) ∙ sym untrue ∙ truth ∙ is_positive-negsuc v)
 
 -- the assignment makes none of the literals true
 abbrev pub MakesNone : Assignment → List ℤ → Type 0

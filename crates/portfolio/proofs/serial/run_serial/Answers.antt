@@ -86,7 +86,7 @@ returns-clause-ordered g c =
     let out = c.outcome_of.ensures in
     let by = run_in_turn (readers_view g.R.Source) f run_params _ _ _ _ _
     (checked g (goal.at.returns-clause-ordered g c).In_ok-found) in
-    rw (out.reports, out.readers, out.dropped, out.kept) (by.0, (by.1, c.run_isolated.ensures f run_params _ _ fits by.0.run))
+    rw (out.reports, out.readers, out.dropped, out.kept) (by.0, (by.1, c.run_isolated.ensures f run_params _ _ fits by.0.run, by.2))
 
 -- the turns keep the formula and the layout
 pub returns-clause-kept : goal.returns-clause-kept

@@ -99,7 +99,7 @@ returns-in-Ok-clause-reports g c =
     let by = run_reports (readers_view g.R.Source) begun c.in-Ok.found _ c.in-Ok.ensures.found out.synced out.one in
     let isolated = c.run_isolated.ensures _ _ _ _ begun.fits by.0.run in
     let serializable = c.run_serializable.ensures _ _ _ _ begun.fits by.0.run in
-    rw (out.reports, out.readers, out.dropped) (by.0, (by.1, isolated, serializable))
+    rw (out.reports, out.readers, out.dropped) (by.0, (by.1, isolated, serializable, by.2))
 
 pub returns-in-Ok-clause-store : goal.returns-in-Ok-clause-store
 returns-in-Ok-clause-store g c =

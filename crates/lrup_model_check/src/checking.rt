@@ -1,0 +1,84 @@
+//! Does what the words ask for.
+ghost use Rattle.std.specs.Prelude.{◌≡◌, Ok, IfOk, false, map, option_map, string_bytes};
+ghost use Rattle.std.specs.Io.KnownBytes.{Appends};
+ghost use Rattle.lrup_model_check.specs.Answering.{answer_text};
+ghost use Rattle.lrup_model_check.specs.Asking.{GaveAnswered, GaveIfAny, GaveSatisfied, NameAnswered, NameSatisfied, lent_path};
+
+use crate::answering::answer;
+use crate::failure::Failure;
+use crate::words::{Paths, paths_of};
+use lrup_text::Sink;
+use model_check::Answer;
+use std::alloc::Global;
+
+/// The files that paths name.
+pub trait Files {
+    ghost use Rattle.std.specs.Prelude.{ℕ, List};
+
+    /// Which bytes the file at a path may give, up to its end.
+    ghost gives: { Self → List ℕ → List ℕ → Type 0 };
+
+    /// Reads the file at a path to its end. The role is for the message.
+    fn read(&self, path: &str, role: &'static str) -> Result<Vec<u8>, Failure>
+        ensures { IfOk result (λ bytes. gives self.now path.now bytes.items) };
+}
+
+/// Checks the model that the words name, and prints the answer.
+pub fn check<F: Files, O: Sink>(
+    alloc: Global,
+    words: &[String],
+    files: &F,
+    out: &mut O,
+) -> Result<Answer, Failure>
+    requires { O.has_failed out.old ≡ false }
+    // What a user relies on: the words name the files, and their bytes are satisfied.
+    ensures satisfied { result ≡ Ok Answer.Satisfies
+        → NameSatisfied (F.gives files.now) (map string_bytes words.now) }
+    ensures answer { IfOk result (NameAnswered (F.gives files.now) (map string_bytes words.now)) }
+    ensures printed { IfOk result (λ answer.
+        Appends (O.written out.old) (O.written out.new) (answer_text answer)) }
+{
+    let Some(paths) = paths_of(words) else {
+        return Err(Failure::Usage);
+    };
+    check_files(alloc, paths, files, out)
+}
+
+/// Reads the files, and checks the model.
+fn check_files<F: Files, O: Sink>(
+    alloc: Global,
+    paths: Paths<'_>,
+    files: &F,
+    out: &mut O,
+) -> Result<Answer, Failure>
+    requires { O.has_failed out.old ≡ false }
+    ensures satisfied { result ≡ Ok Answer.Satisfies → GaveSatisfied (F.gives files.now)
+        (lent_path paths.entry.assumed) paths.entry.formula.now paths.entry.model.now }
+    ensures answer { IfOk result (λ answer. GaveAnswered (F.gives files.now)
+        (lent_path paths.entry.assumed) paths.entry.formula.now paths.entry.model.now answer) }
+    ensures printed { IfOk result (λ answer.
+        Appends (O.written out.old) (O.written out.new) (answer_text answer)) }
+{
+    let formula = files.read(paths.formula, "formula")?;
+    let assumed = read_assumed(paths.assumed, files)?;
+    let model = files.read(paths.model, "model")?;
+    let assumed = match &assumed {
+        Some(bytes) => Some(bytes.as_slice()),
+        None => None,
+    };
+    match answer(alloc, &formula, assumed, &model, out) {
+        Ok(answer) => Ok(answer),
+        Err(fault) => Err(Failure::Answer(fault)),
+    }
+}
+
+/// Reads the file of assumed literals, if there is one.
+fn read_assumed<F: Files>(path: Option<&str>, files: &F) -> Result<Option<Vec<u8>>, Failure>
+    ensures { IfOk result (λ bytes. GaveIfAny (F.gives files.now) (lent_path path.entry)
+        (option_map (λ some. some.items) bytes)) }
+{
+    match path {
+        Some(path) => Ok(Some(files.read(path, "assumptions")?)),
+        None => Ok(None),
+    }
+}

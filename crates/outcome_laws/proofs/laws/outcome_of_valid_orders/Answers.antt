@@ -1,6 +1,0 @@
-use Rattle.outcome_laws.proofs.RoundLemmas.{outcome_of_valid_orders as lemma}
-use Rattle.outcome_laws.proofs.laws.outcome_of_valid_orders.Goals as goal
-
-pub returns : goal.returns
-returns g c = lemma c.one_formula.ensures c.formula_or_fault.ensures c.empty_cube_reported.ensures
-    c.one_command_line.ensures c.valid_together.ensures c.together_begins.ensures c.valid_empty.ensures _
