@@ -9,7 +9,7 @@ RT ?= rt
 PREFIX ?= /usr/local
 VERSION := $(shell cat VERSION)
 # The kit that proves the program, as named in README.
-KIT := $(shell sed -n 's/^`\(rattle-kit-[^`]*\)`.*/\1/p' README.md 2> /dev/null)
+KIT := $(shell sed -n 's/.*`\(rattle-kit-[^`]*\)`.*/\1/p' README.md 2> /dev/null)
 OUT ?= out
 BIN := $(OUT)/bin
 OBJECTS := $(OUT)/objects
@@ -22,12 +22,26 @@ SOLVE := $(BIN)/lrup-solve
 CHECK := $(BIN)/lrup-check
 ENGINES := $(BIN)/lrup-engines
 SOLVER := $(BIN)/example-solver
+HAS_RT := $(shell command -v $(RT))
 HAS_LIBMD := $(shell $(CC) $(CPPFLAGS) -E -x c -include sha256.h /dev/null \
 	> /dev/null 2>&1 && echo yes)
-HAS_CADICAL := $(shell $(CXX) -E -x c++ -include cadical.hpp /dev/null > /dev/null 2>&1 && echo yes)
+# CADICAL names a folder that has CaDiCaL's library: its sources, an installation, or what
+# gate/cadicals.sh has fetched. Without it, the library is the installed one.
+CADICAL ?=
+in_cadical = $(firstword $(wildcard $(addprefix $(CADICAL)/,$(1))))
+CADICAL_HEADER := $(if $(CADICAL),$(call in_cadical,$(addsuffix /cadical.hpp,src include usr/include)))
+CADICAL_LIBRARY := $(or $(if $(CADICAL),$(call in_cadical,$(addsuffix /libcadical.a,build lib usr/lib usr/lib/*))),\
+	$(wildcard $(shell $(CXX) -print-file-name=libcadical.a 2> /dev/null)))
+$(if $(CADICAL),$(if $(CADICAL_HEADER),,$(error CADICAL=$(CADICAL) has no cadical.hpp)))
+USE_CADICAL := $(addprefix -isystem ,$(patsubst %/cadical.hpp,%,$(CADICAL_HEADER)))
+HAS_CADICAL := $(shell $(CXX) $(USE_CADICAL) -E -x c++ -include cadical.hpp /dev/null > /dev/null 2>&1 \
+	&& echo yes)
+# Debian's packages that are missing to build all tools.
+MISSING := $(strip $(if $(HAS_LIBMD),,libmd-dev) $(if $(HAS_CADICAL),,libcadical-dev \
+	$(if $(shell command -v $(firstword $(CXX))),,g++)))
 # What can be built with the libraries that are there.
-RECORD_TOOLS := $(if $(HAS_LIBMD),trim explain,no-trim)
-SOLVE_IF_POSSIBLE := $(if $(and $(HAS_LIBMD),$(HAS_CADICAL)),solve,no-solve)
+RECORD_TOOLS := $(if $(HAS_LIBMD),trim explain)
+SOLVE_IF_POSSIBLE := $(if $(MISSING),,solve)
 # For users to set, like CPPFLAGS, LDFLAGS and LDLIBS; flags that the sources need are in the rules.
 CFLAGS ?= -O2
 CXXFLAGS ?= -O2
@@ -45,7 +59,7 @@ FORMULA ?= examples/bmc.cnf
 STREAMS ?= $(addprefix examples/bmc-four.,1 2 3 4)
 OPTIONS ?= --tries 1000000
 
-.PHONY: run build install built no-trim no-solve uninstall examples live checkpoints \
+.PHONY: run build install put left-out built uninstall examples live checkpoints \
 	rounds demo solver exact trim explain solve solve-mpi scripts tools solver-test filter-test \
 	trim-test building peers hol explain-test solve-test days attack neighbours sweep leaks \
 	instructions quotes promises pages test gate toolchain c-and-python libcadical libmd mpicxx \
@@ -77,19 +91,28 @@ run: build ## try: the same, proved first; try and run take FORMULA=path STREAMS
 build: toolchain ## build: prove lrupd and lrup-model, 13 to 26 minutes the first time, and leave them at out/bin
 	@python3 gate/build.py $(RT) $(PROGRAM)
 
+# Packages that are missing are installed first, if that may be done; then make reads this file again,
+# since it looks for libraries when it begins. make runs a line with $(MAKE) even with -n, so such a
+# line does nothing else. With DESTDIR a packager decides what is installed.
+install: c-and-python $(if $(HAS_RT),,built) ## use: install all, with manual pages, pages and examples, below PREFIX=/usr/local
+	$(if $(and $(MISSING),$(if $(DESTDIR),,yes)),@sh gate/packages.sh $(MISSING))
+	@$(MAKE) --no-print-directory put
+	@$(MAKE) --no-print-directory left-out
+
 # The filter is installed as lrup-exact. Tools whose libraries aren't there are left out. The manual
-# pages get the version in their last line. Without the toolchain, as under sudo, the
-# programs that were built before are installed. No line calls $(MAKE), since make would run such a
-# line even with -n.
+# pages get the version in their last line. Without the toolchain, as under sudo, the programs that
+# were built before are installed. Whatever the umask, all may read what is installed; a folder that
+# was there keeps its mode.
 PLACE = $(DESTDIR)$(PREFIX)
 COMPLETIONS = $(PLACE)/share/bash-completion/completions
-INSTALL_SOLVE = install -d "$(PLACE)/libexec/lrupd" && \
+FOLDER = umask 022 && mkdir -p
+INSTALL_SOLVE = $(FOLDER) "$(PLACE)/libexec/lrupd" && \
 	install -m 755 $(SOLVE) $(CHECK) "$(PLACE)/bin" && \
 	install -m 755 $(ENGINES) "$(PLACE)/libexec/lrupd" && \
 	install -m 644 man/lrup-solve.1 man/lrup-check.1 "$(PLACE)/share/man/man1"
 PAGES = $(PLACE)/share/doc/lrupd
-install: exact $(RECORD_TOOLS) $(SOLVE_IF_POSSIBLE) $(if $(shell command -v $(RT)),build,built) ## use: install all, with manual pages, pages and examples, below PREFIX=/usr/local
-	install -d "$(PLACE)/bin" "$(PLACE)/share/man/man1" "$(COMPLETIONS)"
+put: exact $(RECORD_TOOLS) $(SOLVE_IF_POSSIBLE) $(if $(HAS_RT),build,built)
+	$(FOLDER) "$(PLACE)/bin" "$(PLACE)/share/man/man1" "$(COMPLETIONS)"
 	install -m 755 $(PROGRAM) "$(PLACE)/bin/lrupd"
 	install -m 755 $(MODEL) "$(PLACE)/bin/lrup-model"
 	install -m 755 tools/lrup-recheck "$(PLACE)/bin"
@@ -98,7 +121,7 @@ install: exact $(RECORD_TOOLS) $(SOLVE_IF_POSSIBLE) $(if $(shell command -v $(RT
 	install -m 644 $(patsubst %,man/%.1,lrupd lrup-model lrup-recheck lrup-exact) "$(PLACE)/share/man/man1"
 	$(if $(HAS_LIBMD),install -m 755 $(TRIM) $(EXPLAIN) "$(PLACE)/bin")
 	$(if $(HAS_LIBMD),install -m 644 man/lrup-trim.1 man/lrup-explain.1 "$(PLACE)/share/man/man1")
-	$(if $(filter solve,$(SOLVE_IF_POSSIBLE)),$(INSTALL_SOLVE))
+	$(if $(SOLVE_IF_POSSIBLE),$(INSTALL_SOLVE))
 	sed -i 's/^\.Os$$/.Os lrupd $(VERSION)/' "$(PLACE)"/share/man/man1/lrup*.1
 	sh tools/build/completions.sh "$(PLACE)/bin" "$(COMPLETIONS)"
 	sh tools/build/pages.sh "$(PAGES)"
@@ -107,11 +130,14 @@ built:
 	@for program in $(PROGRAM) $(MODEL); do test -x $$program || \
 	{ echo "$$program isn't built: 'make build' builds it with the command '$(RT)'"; exit 1; }; done
 
-no-trim:
-	@echo "lrup-trim and lrup-explain aren't built: they need libmd, in Debian the package libmd-dev"
-
-no-solve:
-	@echo "lrup-solve isn't built: it needs CaDiCaL as a library and libmd, in Debian the packages libcadical-dev and libmd-dev"
+# What isn't built, and the command that completes what was ASKED.
+ASKED = install$(if $(DESTDIR), DESTDIR=$(DESTDIR)) PREFIX=$(PREFIX)
+LEFT_OUT = lrup-check $(if $(HAS_LIBMD),,lrup-explain) lrup-solve $(if $(HAS_LIBMD),,lrup-trim)
+ADD = apt-get install $(MISSING)
+AS_ROOT = $(if $(filter 0,$(shell id -u)),$(ADD),$(if $(shell command -v sudo),sudo $(ADD),su -c '$(ADD)'))
+left-out:
+	@$(if $(MISSING),echo "left out: $(strip $(LEFT_OUT)). This adds them:"; \
+	echo "    $(AS_ROOT) && make $(ASKED)",:)
 
 uninstall: ## use: remove what make install installs below PREFIX
 	rm -f $(foreach name,lrupd lrup-model lrup-recheck lrup-exact lrup-trim lrup-explain lrup-solve lrup-check,\
@@ -150,7 +176,8 @@ solve-mpi: $(ENGINES)-mpi solve ## build: lrup-engines-mpi, for lrup-solve --mpi
 	@:
 
 # What the tests of programs run.
-tools: exact $(RECORD_TOOLS) solver scripts $(SOLVE_IF_POSSIBLE)
+tools: ASKED = tools
+tools: exact $(RECORD_TOOLS) solver scripts $(SOLVE_IF_POSSIBLE) left-out
 
 scripts: $(BIN)/lrup-recheck
 $(BIN)/lrup-recheck: tools/lrup-recheck
@@ -173,8 +200,9 @@ FIXED = $(filter -static% -no-pie -fno-pie -fno-PIE -fno-pic -fno-PIC,$(USERS_FL
 PROTECTED = -fstack-protector-strong $(FORTIFIED) $(if $(FIXED),,-fPIE)
 PROTECTED_LINK = -Wl,-z,relro,-z,now $(if $(FIXED),,-pie)
 COMPILE_FRONT = $(C_COMPILER) -I $(OBJECTS) $(PROTECTED) $(CPPFLAGS) $(CFLAGS)
-COMPILE_CXX = -std=c++17 $(WARNINGS) $(VERSIONED) -DKIT='"$(KIT)"' $(INCLUDES) \
+COMPILE_CXX = -std=c++17 $(WARNINGS) $(VERSIONED) -DKIT='"$(KIT)"' $(INCLUDES) $(USE_CADICAL) \
 	$(CPPFLAGS) $(CXXFLAGS)
+LINK_CADICAL = $(or $(CADICAL_LIBRARY),-lcadical)
 LINK = mkdir -p $(dir $@) && \
 	$(1) $(2) $(LDFLAGS) -o $@.new $(filter %.o,$^) $(3) $(LDLIBS) && mv $@.new $@
 
@@ -190,11 +218,12 @@ $(SOLVE): $(call in_order,$(wildcard tools/lrup-solve/*.c))
 	@$(call LINK,$(CC) $(PROTECTED_LINK),$(CFLAGS))
 $(CHECK): $(call in_order,tools/lrup-check/main.c)
 	@$(call LINK,$(CC) $(PROTECTED_LINK),$(CFLAGS))
-$(ENGINES): $(call in_order,$(wildcard $(addprefix tools/lrup-engines/,*.cpp *.c)) $(FILTER))
-	@$(call LINK,$(CXX),$(CXXFLAGS) -pthread,-lcadical -lmd)
+$(ENGINES): $(call in_order,$(wildcard $(addprefix tools/lrup-engines/,*.cpp *.c)) $(FILTER)) \
+	$(CADICAL_LIBRARY)
+	@$(call LINK,$(CXX),$(CXXFLAGS) -pthread,$(LINK_CADICAL) -lmd)
 WITH_MPI := $(wildcard $(addprefix tools/lrup-engines/,*.cpp *.c mpi/*.cpp))
-$(ENGINES)-mpi: $(call in_order,$(WITH_MPI) $(FILTER))
-	@$(call LINK,OMPI_CXX="$(CXX)" mpicxx,$(CXXFLAGS) -pthread,-lcadical -lmd)
+$(ENGINES)-mpi: $(call in_order,$(WITH_MPI) $(FILTER)) $(CADICAL_LIBRARY)
+	@$(call LINK,OMPI_CXX="$(CXX)" mpicxx,$(CXXFLAGS) -pthread,$(LINK_CADICAL) -lmd)
 
 $(call in_order,$(RECORDS)): | libmd
 $(OBJECTS)/%.o: %.c $(OBJECTS)/flags
@@ -219,13 +248,22 @@ FAULTS = $(OBJECTS)/lrup-explain.faults.h
 $(FAULTS): crates/stream_check/specs/Faults.antt tools/build/faults.awk
 	@mkdir -p $(dir $@) && awk -f $(filter %.awk,$^) $< > $@
 $(OBJECTS)/tools/lrup-explain/tell.o: $(FAULTS)
-$(OBJECTS)/tools/lrup-solve/front.o: $(HELPS)
+# The version of CaDiCaL's library, for --version.
+CADICAL_VERSION := $(OBJECTS)/cadical_version
+WITH_CADICAL := $(OBJECTS)/with_cadical.h
+$(CADICAL_VERSION): $(call in_order,tools/build/cadical_version.cpp) $(CADICAL_LIBRARY)
+	@$(call LINK,$(CXX),$(CXXFLAGS) -pthread,$(LINK_CADICAL))
+$(WITH_CADICAL): $(CADICAL_VERSION)
+	@$< > $@.new && sed -i -e 's/^[^0-9].*/& by its own name/' \
+	-e 's/.*/#define WITH_CADICAL ", with CaDiCaL &"/' $@.new && mv $@.new $@
+$(OBJECTS)/tools/lrup-solve/front.o: $(HELPS) $(WITH_CADICAL)
+$(OBJECTS)/tools/lrup-engines/options.o: $(WITH_CADICAL)
 
 # Files with the compilers' commands, rewritten only when these change.
 $(OBJECTS)/flags: FORCE | c-and-python
 	@mkdir -p $(dir $@) && \
 	echo '$(subst ','\'',$(COMPILE_FRONT) $(PROTECTED_LINK) $(CXX) $(COMPILE_CXX) $(LDFLAGS) \
-	$(LDLIBS))' > $@.new && \
+	$(LDLIBS) $(LINK_CADICAL))' > $@.new && \
 	{ cmp -s $@.new $@ && rm $@.new || mv $@.new $@; }
 FORCE:
 -include $(wildcard $(OBJECTS)/*/*/*.d $(OBJECTS)/*/*/*/*.d)
@@ -237,18 +275,18 @@ C_FOLDERS := $(addprefix tools/,lib filter lrup-exact lrup-trim lrup-explain lru
 C_SOURCES := $(wildcard $(addsuffix /*.c,$(C_FOLDERS) tools/lrup-engines tests/support))
 C_HEADERS := $(wildcard $(addsuffix /*.h,$(C_FOLDERS))) \
 	$(addprefix tools/lrup-engines/,shared.h test_hooks.h)
-CXX_SOURCES := $(wildcard tools/lrup-engines/*.cpp)
+CXX_SOURCES := $(wildcard tools/lrup-engines/*.cpp) tools/build/cadical_version.cpp
 MPI_SOURCES := $(wildcard tools/lrup-engines/mpi/*.cpp)
 FORMATTED = $(shell git ls-files | grep -E '\.(c|cpp|h)$$')
 STRICT = $(WARNINGS) -Werror -O2 -fsyntax-only $(VERSIONED) $(INCLUDES)
 STRICT_C = -std=c11 $(STRICT) -x c
-STRICT_CXX = -std=c++17 $(STRICT) -DKIT='"$(KIT)"'
-warnings: c-and-python libmd $(HELPS) $(FAULTS) ## check: C and C++ compile without a warning, each header by itself, and clang-format has nothing to do
+STRICT_CXX = -std=c++17 $(STRICT) -DKIT='"$(KIT)"' $(USE_CADICAL)
+warnings: c-and-python libmd $(HELPS) $(FAULTS) $(if $(HAS_CADICAL),$(WITH_CADICAL)) ## check: C and C++ compile without a warning, each header by itself, and clang-format has nothing to do
 	@for compiler in $(firstword $(CC)) clang; do command -v $$compiler > /dev/null || continue; \
 	$$compiler $(STRICT_C) $(C_SOURCES) || exit 1; \
 	for file in $(C_HEADERS); do \
 	$$compiler $(STRICT_C) -D_POSIX_C_SOURCE=200809L -include $$file /dev/null || exit 1; done; done
-	@$(CXX) -E -x c++ -include cadical.hpp /dev/null > /dev/null 2>&1 || exit 0; \
+	@[ -n '$(HAS_CADICAL)' ] || exit 0; \
 	for compiler in $(firstword $(CXX)) clang++; do command -v $$compiler > /dev/null || continue; \
 	$$compiler $(STRICT_CXX) $(CXX_SOURCES) || exit 1; done; \
 	! command -v mpicxx > /dev/null || OMPI_CXX="$(CXX)" mpicxx $(STRICT_CXX) $(MPI_SOURCES)
@@ -325,10 +363,12 @@ pages: c-and-python ## check: the documents, against the sources and each other;
 	@python3 gate/style.py
 	@python3 gate/promises.py > /dev/null
 
-# Needs dpkg-deb and dpkg-dev.
+# Needs dpkg-deb and dpkg-dev. No package is installed, since who makes one decides what it has.
 deb: ## use: a Debian package of what make install installs, in out/
-	@rm -rf out/deb && $(MAKE) --no-print-directory install DESTDIR="$(abspath out/deb)" PREFIX=/usr
+	@rm -rf out/deb
+	@$(MAKE) --no-print-directory put DESTDIR="$(abspath out/deb)" PREFIX=/usr
 	@sh tools/build/deb.sh out/deb $(VERSION)
+	@$(MAKE) --no-print-directory left-out ASKED=deb
 
 # The archive has committed files only.
 dist: ## use: an archive of the sources, in out/
@@ -382,7 +422,7 @@ mpicxx:
 libcadical:
 	@command -v $(firstword $(CXX)) > /dev/null || \
 	{ echo "make solve needs a C++ compiler: no command '$(firstword $(CXX))' is on the PATH"; exit 1; }
-	@$(CXX) -E -x c++ -include cadical.hpp /dev/null > /dev/null 2>&1 || \
+	@[ -n '$(HAS_CADICAL)' ] || \
 	{ echo "make solve needs CaDiCaL as a library: in Debian the package libcadical-dev"; exit 1; }
 
 libmd:

@@ -32,8 +32,10 @@ if [ ! -L "$formula" ] && { [ -f "$formula" ] || [ ! -e "$formula" ]; }; then
     trap 'exit 1' HUP INT TERM
     rm -f -- "$formula" || exit
 fi
-circuit=$(yosys -q -f verilog -p "$passes; $gates; $clock; write_aiger -ascii -symbols" \
-    -- "$file") || exit
+# yosys would write its history to HOME.
+circuit=$(unset HOME
+    yosys -q -f verilog -p "$passes; $gates; $clock; write_aiger -ascii -symbols" \
+        -- "$file") || exit
 printf '%s\n' "$circuit" | sed "$names" |
     awk "$@" -f "$(dirname "$0")/aiger2cnf.awk" > "$new" || exit
 [ "$new" = "$formula" ] || mv -- "$new" "$formula"

@@ -100,6 +100,14 @@ STEPS = (
         pytest-3 -n auto --dist load --max-worker-restart=0 tests \\
             -m 'not long and not nightly and not of_crates'"""),
     Step("mpi", 60, ["mpicxx"], "make rows TESTS=lrup_solve_mpi MORE='-m long'"),
+    Step("cadicals", 150, ["apt-get", "dpkg-deb"], """
+        sh gate/cadicals.sh "$work/cadicals" > "$work/found" 2> "$work/left_out"
+        cat "$work/left_out"
+        for folder in $(cat "$work/found"); do
+            PATH="$folder/usr/bin:$PATH" \\
+                make CADICAL="$folder" warnings tools solve-test || exit 1
+        done
+        make tools      # with the installed one"""),
     Step("clang", 90, ["clang++"], f"""
         {CLANG} tools && {{ ! command -v mpicxx || {CLANG} solve-mpi; }} && {CLANG} rows \\
             TESTS='example_solver explain filter_streams lrup_solve lrup_solve_kept trim'

@@ -10,15 +10,17 @@ several, each for a part of its rows. What takes longest begins first.
 With --after build the tools are built, and the programs are proved by gate/build.py; files that
 need no lrupd run meanwhile. With --after ci, `rt ci` proves everything, tries the edits and tests
 the crates, and then come the tests of programs. Both also check the pages, C's warnings and
-Python's types, unless names are given. The last line is 'N passed, M failed': rows of tests, what
-rt ci counts, and each other step. With --write, the seconds of the tests that were run go into
-gate/seconds.txt."""
+Python's types, unless names are given. Any run fails if something OUTSIDE the repository has
+changed meanwhile. The last line is 'N passed, M failed': rows of tests, what rt ci counts, and each
+other step. With --write, the seconds of the tests that were run go into gate/seconds.txt."""
 import argparse
 import contextlib
+import glob
 import os
 import re
 import shutil
 import signal
+import stat
 import subprocess
 import sys
 import tempfile
@@ -44,6 +46,16 @@ CHECKS = ("warnings", "pages", "types")
 SIGNALS = (signal.SIGINT, signal.SIGTERM)
 # Files of tests that need no lrupd: their rows run while it is being proved.
 WITHOUT_LRUPD = ("builds", "quotes")
+# What no test may change: where programs are installed, and settings. Elsewhere in HOME other
+# programs write at any time: histories, caches, documents. But a program that runs for the first
+# time makes a hidden file or folder there: of these the names and modes count.
+OUTSIDE = ("/usr/local", "/etc", "~/.local/bin", "~/.local/libexec", "~/.local/share/man",
+           "~/.local/share/doc", "~/.local/share/bash-completion", "~/.config/git")
+SETTINGS = ("~/.gitconfig", "~/.profile", "~/.bashrc", "~/.bash_profile")
+HIDDEN = ("~/.*", "~/.config/*")
+# Python's compiled modules, files of /etc that services write, and editors' temporary files.
+IGNORED = re.compile(r"__pycache__|resolv\.conf|adjtime|.*\.sw[a-p]|.*\.tmp|.*~")
+MOST_CHANGES = 20   # that are printed
 
 
 def seconds_of_tests() -> Dict[str, Tuple[int, int]]:
@@ -54,6 +66,36 @@ def seconds_of_tests() -> Dict[str, Tuple[int, int]]:
 
 def clock(seconds: float) -> str:
     return f"{int(seconds) // 60}:{int(seconds) % 60:02}"
+
+
+def about(path: str) -> str:
+    """A file's mode, size and time. A folder's time also changes with a file that comes and goes,
+    such as another program's lock, so only the mode counts."""
+    found = os.lstat(path)
+    mode = stat.filemode(found.st_mode)
+    return mode if mode[0] == "d" else f"{mode} {found.st_size} {found.st_mtime_ns}"
+
+
+def matching(names: Sequence[str]) -> List[str]:
+    return [path for name in names for path in glob.glob(os.path.expanduser(name))
+            if not IGNORED.fullmatch(os.path.basename(path))]
+
+
+def outside() -> Dict[str, str]:
+    """What stands where no test may write. What stands in a folder in which this run may not write
+    is left out, since tests can't change it either."""
+    paths = matching([*SETTINGS, *OUTSIDE])
+    for top in matching(OUTSIDE):
+        for folder, folders, files in os.walk(top):
+            folders[:] = [name for name in folders if not IGNORED.fullmatch(name)]
+            if os.access(folder, os.W_OK):
+                paths += [os.path.join(folder, name) for name in [*folders, *files]
+                          if not IGNORED.fullmatch(name)]
+    found = {path: about(path).split()[0] for path in matching(HIDDEN)}
+    for path in paths:
+        with contextlib.suppress(FileNotFoundError):
+            found[path] = about(path)
+    return found
 
 
 class Tests(NamedTuple):
@@ -197,10 +239,6 @@ class Run:
                               for word in ("passed", "(?:failed|error)"))
             if not failed and step.status not in (0, NO_ROWS):
                 failed = 1
-        elif step.name == "tools" and failed and "CI" not in os.environ:
-            lacks = re.findall(r"^(.* needs? .* package .*)", text, re.M)
-            self.skipped.update(lacks)
-            failed = int(not lacks)
         self.passed += passed
         self.failed += failed
         for number, why in re.findall(r"^SKIPPED \[(\d+)\] \S+: (.*)", text, re.M):
@@ -233,7 +271,7 @@ class Run:
     # The whole.
 
     def everything(self) -> None:
-        options = self.options
+        options, before = self.options, outside()
         if options.after:
             self.run_alone("tools", ["make", "-s", "-k", f"-j{CORES}", "tools"])
         proof: Optional[Step] = None
@@ -259,11 +297,22 @@ class Run:
             self.start_ready(AT_ONCE, 0, self.todo)
             self.wait()
         self.find_links()
+        self.find_changes(before)
 
     def run_alone(self, name: str, words: Sequence[object]) -> None:
         self.start(name, words)
         while self.running:
             self.wait()
+
+    def find_changes(self, before: Dict[str, str]) -> None:
+        after = outside()
+        changes = [f"{path}: {before.get(path, 'not there')}, then {after.get(path, 'not there')}"
+                   for path in sorted({*before, *after}) if before.get(path) != after.get(path)]
+        if changes:
+            self.failed += 1
+            more = [f".. and {len(changes) - MOST_CHANGES} more"] * (len(changes) > MOST_CHANGES)
+            self.say("\n".join(["changed while tests ran, outside the repository:",
+                                *changes[:MOST_CHANGES], *more]))
 
     def find_links(self) -> None:
         """The next `rt ci` would refuse a link that a test has left among what is built."""

@@ -3,13 +3,14 @@ the environment; what is compiled again after a change; and the installed files.
 import os
 import re
 import shutil
+import stat
 from pathlib import Path
 from typing import Dict, List, Sequence, Set
 
 import pytest
 
 from harness import (BUILDS, EXPLAIN, FILTER, LIMIT, ROOT, TRIM, VERSION, Ran, alone, executable,
-                     needs, output_of, run, sanitized)
+                     named, needs, output_of, run, sanitized)
 from solving import built
 
 C = {"CC": "one-cc", "CFLAGS": "-DFLAG_OF_C", "CPPFLAGS": "-DFLAG_OF_BOTH", "LDFLAGS": "-Lflag",
@@ -158,13 +159,13 @@ def test_what_is_compiled_again(tree: Path) -> None:
 # Installed files.
 
 
-def in_its_build(words: Sequence[object]) -> Ran:
+def in_its_build(words: Sequence[object], umask: int = -1) -> Ran:
     """Runs make, without the toolchain, in a build of its own."""
     place = BUILDS / "installed"
     given = [f"OUT={place}", "PREFIX=/usr", "RT=none", "CFLAGS=-O0", "CXXFLAGS=-O0", *words]
     with alone(place / "lock"):
         return run(["make", "-s", f"-j{os.cpu_count()}", "-C", ROOT, *given], limit=2 * LIMIT,
-                   env=clean({}))
+                   env=clean({}), umask=umask)
 
 
 def test_install_and_uninstall(tmp_path: Path) -> None:
@@ -186,7 +187,7 @@ def test_install_and_uninstall(tmp_path: Path) -> None:
     pages = place / "usr/share/doc/lrupd"
     for name in ("README.md", "USING.md", "examples/fifo/bmc.sh", "examples/bmc.cnf"):
         assert (pages / name).is_file()
-    solving = {"lrup-solve", "lrup-check"} if "isn't built" not in said else set()
+    solving = {"lrup-solve", "lrup-check"} if "left out" not in said else set()
     names = {"lrupd", "lrup-model", "lrup-recheck", "lrup-exact", "lrup-trim",
              "lrup-explain"} | solving
     wanted = {f"usr/{form.format(name)}" for name in names for form in
@@ -206,19 +207,160 @@ def test_install_and_uninstall(tmp_path: Path) -> None:
         assert f"{missing} isn't built" in done.out
 
 
-def test_the_packages_links(tmp_path: Path) -> None:
-    """Each link on the package's pages leads to a file in the package."""
+def put(place: Path, umask: int = -1) -> None:
+    """Installs what is built; the filter stands for the proved programs."""
+    output_of(in_its_build(["install", f"PROGRAM={FILTER}", f"MODEL={FILTER}", f"DESTDIR={place}"],
+                           umask))
+
+
+def packed(place: Path, umask: int = -1) -> Path:
+    """The Debian package of what is installed there."""
     for command in ("dpkg-deb", "dpkg-shlibdeps"):
         needs(command)
-    place = tmp_path / "package"
-    output_of(in_its_build(["install", f"PROGRAM={FILTER}", f"MODEL={FILTER}", f"DESTDIR={place}"]))
-    done = run(["sh", ROOT / "tools" / "build" / "deb.sh", place, "1"])
+    done = run(["sh", ROOT / "tools" / "build" / "deb.sh", place, "1"], umask=umask)
     assert done.status == 0, done.err
+    (package,) = place.parent.glob("*.deb")
+    return package
+
+
+@pytest.mark.parametrize("umask", [0o000, 0o077], ids=["umask 000", "umask 077"])
+def test_modes(umask: int, tmp_path: Path) -> None:
+    """Whatever the umask, all may read what is installed and packed, and run programs, and only the
+    owner may write it."""
+    place, pages = tmp_path / "some" / "place", Path("usr/share/doc/lrupd")
+    put(place, umask)
+    programs = {path for folder in ("usr/bin", "usr/libexec/lrupd")
+                for path in (place / folder).iterdir()}
+    scripts = {place / pages / path.relative_to(ROOT) for path in (ROOT / "examples").rglob("*")
+               if os.access(path, os.X_OK)}
+    paths = [place.parent, *place.parent.rglob("*")]
+    assert len(paths) > 100
+    wrong = {path: oct(mode) for path in paths for mode in [stat.S_IMODE(path.stat().st_mode)]
+             if mode != (0o755 if path.is_dir() or path in programs | scripts else 0o644)}
+    assert wrong == {}
+    package = packed(place, umask)
+    assert stat.S_IMODE(package.stat().st_mode) == 0o644
+    modes = [line.split()[0] for line in output_of(run(["dpkg-deb", "-c", package])).splitlines()]
+    assert len(modes) > 100
+    assert set(modes) == {"drwxr-xr-x", "-rwxr-xr-x", "-rw-r--r--"}
+
+
+def test_a_folder_keeps_its_mode(tmp_path: Path) -> None:
+    """As that of /usr/local/bin, in which a group may write on many machines."""
+    folder = tmp_path / "usr" / "bin"
+    folder.mkdir(parents=True)
+    folder.chmod(0o2775)
+    put(tmp_path)
+    assert (folder / "lrupd").is_file()
+    assert stat.S_IMODE(folder.stat().st_mode) == 0o2775
+
+
+def test_the_packages_links(tmp_path: Path) -> None:
+    """Each link on the package's pages leads to a file in the package."""
+    place = tmp_path / "package"
+    put(place)
+    packed(place)
     links = [(page, target) for page in (place / "usr/share/doc/lrupd").glob("**/*.md")
              for target in re.findall(r"\]\(([^)#]+)", page.read_text())]
     assert len(links) > 10
     for page, target in links:
         assert target.startswith("http") or (page.parent / target).exists(), page
+
+
+# Missing libraries.
+
+# A compiler that finds a library once its package is installed, and makes programs that do nothing.
+FALSE_COMPILER = """\
+top=$(dirname "$0")
+case "$*" in
+    *sha256.h*) exec test -e "$top/libmd-dev" ;;
+    *cadical.hpp*) exec test -e "$top/libcadical-dev" ;;
+esac
+while [ "$1" != -o ]; do shift; done
+cp "$top/it" "$2"
+"""
+FALSE_APT = """\
+top=$(dirname "$0")
+echo "$*" >> "$top/asked"
+[ "$(id -u)" = 0 ] || [ -n "$BY_SUDO" ] || exit 100
+[ -e "$top/online" ] || { echo "E: Unable to fetch" >&2; exit 100; }
+[ "$1" != install ] || for word; do
+    case $word in lib*) touch "$top/$word" ;; esac
+done
+"""
+FALSE_COMMANDS = {"cc": FALSE_COMPILER, "apt-get": FALSE_APT, "dpkg-query": "exit 1",
+                  "it": 'echo "usage: it [--help]"'}
+SUDO = 'BY_SUDO=yes exec "$@"'
+ALL_TOOLS = ["lrup-check", "lrup-explain", "lrup-solve", "lrup-trim"]
+ALL_PACKAGES = "libmd-dev libcadical-dev"
+NO_CADICAL = ["lrup-explain", "lrup-trim"]
+
+
+def machine(folder: Path, user: str, there: str) -> Path:
+    """A folder that has all commands, and may stand for PATH on a machine of this user, with these
+    packages."""
+    folder.mkdir()
+    for place in reversed(os.environ["PATH"].split(":")):
+        for path in Path(place).glob("*"):
+            if path.name not in ("sudo", "su", "id", *FALSE_COMMANDS):
+                (folder / path.name).unlink(missing_ok=True)
+                (folder / path.name).symlink_to(path)
+    for name, text in FALSE_COMMANDS.items():
+        executable(text, folder, name)
+    executable(f"echo {0 if user == 'root' else 1000}", folder, "id")
+    if user == "sudo":
+        executable(SUDO, folder, "sudo")
+    for name in there.split():
+        (folder / name).touch()
+    return folder
+
+
+@pytest.mark.parametrize("user, there, words, asked, tools, adding", named([
+    ("root", "root", "online", [], ALL_PACKAGES, ALL_TOOLS, ""),
+    ("root, offline", "root", "", [], ALL_PACKAGES, [],
+     f"apt-get install {ALL_PACKAGES} && make install"),
+    ("root, one library", "root", "online libmd-dev", [], "libcadical-dev", ALL_TOOLS, ""),
+    ("root, both libraries", "root", "online libmd-dev libcadical-dev", [], "", ALL_TOOLS, ""),
+    ("root, in CI", "root", "", ["CI=yes"], ALL_PACKAGES, [],
+     f"apt-get install {ALL_PACKAGES} && make install"),
+    ("no C++", "root", "online libmd-dev", ["CXX=none"], "libcadical-dev g++", NO_CADICAL,
+     "apt-get install libcadical-dev g++ && make install"),
+    ("a packager", "root", "online", ["DESTDIR=/"], "", [],
+     f"apt-get install {ALL_PACKAGES} && make install DESTDIR=/"),
+    ("sudo", "sudo", "online", [], ALL_PACKAGES, ALL_TOOLS, ""),
+    ("sudo, offline", "sudo", "", [], ALL_PACKAGES, [],
+     f"sudo apt-get install {ALL_PACKAGES} && make install"),
+    ("a user", "user", "online", [], "", [],
+     f"su -c 'apt-get install {ALL_PACKAGES}' && make install"),
+    ("a user, one library", "user", "online libmd-dev", [], "", NO_CADICAL,
+     "su -c 'apt-get install libcadical-dev' && make install")]))
+def test_missing_libraries(user: str, there: str, words: List[str], asked: str, tools: List[str],
+                           adding: str, tmp_path: Path) -> None:
+    """make install installs packages where it may, unless they are there, or a packager runs it.
+    What can't be built is left out, and the last line is the command that adds it."""
+    path, prefix = machine(tmp_path / "commands", user, there), tmp_path / "prefix"
+    given = {"RT": "none", "OUT": tmp_path / "out", "CC": path / "cc", "CXX": path / "cc",
+             "PROGRAM": path / "it", "MODEL": path / "it", "PREFIX": prefix}
+    done = run(["make", "-s", "-C", ROOT, *(f"{name}={value}" for name, value in given.items()),
+                *words, "install"], env={**clean({"PATH": str(path)}), "CI": ""})
+    said = output_of(done).splitlines()
+    done_by_apt = path / "asked"
+    assert (done_by_apt.read_text() if done_by_apt.exists() else "") == (
+        f"update -qq\ninstall -y --no-install-recommends {asked} -qq\n" if asked else "")
+    found = {tool.name for tool in (prefix / "bin").iterdir()}
+    assert sorted(found & {*ALL_TOOLS}) == tools
+    assert said[-2:] == ([f"left out: {' '.join(sorted({*ALL_TOOLS} - found))}. This adds them:",
+                          f"    {adding} PREFIX={prefix}"] if adding else said[-2:])
+    assert ("left out" in done.out) == bool(adding)
+
+
+def test_a_package_asks_for_no_other(tmp_path: Path) -> None:
+    """make deb installs no libraries, either."""
+    path = machine(tmp_path / "commands", "root", "online")
+    done = run(["make", "-n", "-C", ROOT, "RT=none", f"CC={path}/cc", f"CXX={path}/cc", "deb"],
+               env=clean({"PATH": str(path)}))
+    assert "deb.sh" in output_of(done)
+    assert "packages.sh" not in done.out
 
 
 def test_builds_for_tests() -> None:

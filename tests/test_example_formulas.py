@@ -6,6 +6,7 @@ the counterexamples that show.awk prints have to be ones. SMT-LIB, circuits and 
 scripts refuse are in test_shown.py."""
 import importlib.util
 import itertools
+import os
 import random
 import re
 import sys
@@ -327,7 +328,8 @@ def satisfiable_by_yosys(circuit: Path, depth: int, induction: bool) -> bool:
               "flatten; setundef -undriven -anyseq; techmap; setundef -undriven -anyseq; "
               f"{'setattr -unset init w:*; ' if induction else ''}"
               f"sat -timeout 1 -seq {depth} -prove bad 0 {asked} -dump_cnf {own}")
-    done = run(["yosys", "-q", "-f", "verilog", "-p", script, circuit])
+    done = run(["yosys", "-q", "-f", "verilog", "-p", script, circuit],
+               env={**os.environ, "HOME": str(circuit.parent)})
     assert own.exists(), done
     needs("cadical")
     return run(["cadical", "-q", own]).status == 10
@@ -495,6 +497,16 @@ def test_a_formula_on_standard_output(tmp_path: Path) -> None:
     assert run([BMC, circuit, 3, formula]) == Ran("", "", 0)
     assert run([BMC, circuit, 3, "/dev/stdout"]) == Ran(formula.read_text(), "", 0)
     assert Path("/dev/stdout").is_symlink()
+
+
+def test_nothing_is_written_to_home(tmp_path: Path) -> None:
+    """yosys keeps a history there."""
+    needs("yosys")
+    circuit, home = written(FIFO, tmp_path, "one.v"), tmp_path / "home"
+    home.mkdir()
+    done = run([BMC, circuit, 3, tmp_path / "one.cnf"], env={**os.environ, "HOME": str(home)})
+    assert done == Ran("", "", 0)
+    assert list(home.iterdir()) == []
 
 
 def test_a_circuit_whose_name_begins_with_a_dash(tmp_path: Path) -> None:

@@ -22,8 +22,8 @@ from typing import Callable, Dict, List, NamedTuple, Optional, Sequence, Set, Tu
 import pytest
 
 from faulty import garbled_text, refuted
-from harness import (COMPRESSED, EXAMPLES, EXPLAIN, FOUR, NONE_BAD, ROOT, SANITIZING, VERSION, Ran,
-                     compiler, enough_for, example, generated, named, output_of, piped, run,
+from harness import (COMPRESSED, EXAMPLES, EXPLAIN, FOUR, NONE_BAD, ROOT, SANITIZING, VERSION, ZCAT,
+                     Ran, compiler, enough_for, example, generated, named, output_of, piped, run,
                      sanitized, write_all, written)
 from mutations import Mutant
 from rewriting import cut_while_read, withstands
@@ -846,14 +846,14 @@ def test_files_that_are_rewritten(seed: int, tmp_path: Path) -> None:
     ("f p", 1, "p: has to be a regular file, since it is read more than once"),
     ("f none", 1, "none: No such file or directory"),
     ("none s", 1, "none: No such file or directory"),
-    ("z s", 1, "z: compressed: unpack it with zcat"),
+    ("z s", 1, f"z: compressed: unpack it with {ZCAT}"),
     ("--lines 268435456 f s", 1,
      "row too long: 269484045 words, but lrupd takes at most 268435456: use smaller --lines or "
      "--room")])
 def test_refused(words: str, status: int, said: str, tmp_path: Path) -> None:
     """Runs in a folder with a formula f, a stream s, a pipe p, a folder d without rounds, and a
     compressed formula z."""
-    write_all({"f": FOUR, "s": FIRST, "z": COMPRESSED["zcat"]}, tmp_path)
+    write_all({"f": FOUR, "s": FIRST, "z": COMPRESSED[ZCAT]}, tmp_path)
     piped(tmp_path / "p")
     (tmp_path / "d").mkdir()
     done = explain(words.split(), tmp_path)
@@ -861,13 +861,13 @@ def test_refused(words: str, status: int, said: str, tmp_path: Path) -> None:
     assert done.err.splitlines()[-1] == f"lrup-explain: {said}"
 
 
-@pytest.mark.parametrize("unpacker", COMPRESSED)
-def test_compressed(unpacker: str, tmp_path: Path) -> None:
+@pytest.mark.parametrize("how", COMPRESSED)
+def test_compressed(how: str, tmp_path: Path) -> None:
     """A compressed stream: lrupd says that its first byte is misspelled."""
-    written(COMPRESSED[unpacker], tmp_path, "f1")
+    written(COMPRESSED[how], tmp_path, "f1")
     done = explain([written(FOUR, tmp_path), "f1"], tmp_path)
     assert faults_in(done) == {1: (1, "spelling")}
-    assert done.out.splitlines()[-1] == f"       compressed: unpack it with {unpacker}"
+    assert done.out.splitlines()[-1] == f"       compressed: unpack it with {how}"
 
 
 @pytest.mark.parametrize("word", ["--help", "-h"])

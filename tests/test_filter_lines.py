@@ -170,8 +170,6 @@ def refusals_in_binary() -> List[Refused]:
          "step 2, byte 8: ", FIRST, lrat),
         ("binary, no step after a deletion", FOUR, b"d" + codes([1, 2]) + b"x\0",
          "--format", "", []),
-        ("binary, of which the first bytes say nothing", FOUR,
-         b"a" + varint(5) + codes([2]) + codes([1, 2]), "--format", "", []),
     ]
 
 
@@ -212,6 +210,12 @@ def ordered() -> List[ComesOut]:
         ("comments in the formula",
          "c p cnf\nc\n" + FOUR.replace("\n-1 2", "\nc 1 0\n-1 2"), FIRST, FIRST, []),
         ("binary LRAT, by a number that is no literal", FOUR, five, FIRST, []),
+        ("binary LRAT, by its lists", FOUR,
+         b"a" + varint(5) + codes([2]) + varint(1) + varint(2) + b"\0", FIRST, []),
+        ("binary LRAT, only identities of additions as numbers", FOUR,
+         b"a" + varint(5) + codes([2]) + codes([1, 2]) + b"a" + varint(6) + codes([-2])
+         + codes([3, 4]) + b"d" + codes([1, 2]) + b"a" + varint(7) + codes([]) + codes([5, 6]),
+         FIRST + "6 -2 0 3 4 0\n6 d 1 2 0\n7 0 5 6 0\n", []),
         ("a last line of LRAT without LF", FOUR, "5 2 0 1 2 0\n6 0 5 3 4 0",
          FIRST + "6 0 5 3 4 0\n", []),
     ]
@@ -337,15 +341,15 @@ def test_hints_that_are_held(program: str, tmp_path: Path) -> None:
 
 
 @pytest.mark.parametrize("words", [[], ["--format", "drat"]], ids=" ".join)
-@pytest.mark.parametrize("name", COMPRESSED)
-def test_compressed(name: str, words: List[str], tmp_path: Path) -> None:
+@pytest.mark.parametrize("how", COMPRESSED)
+def test_compressed(how: str, words: List[str], tmp_path: Path) -> None:
     """A compressed formula or proof: the message names the program that unpacks it."""
     formula = written(FOUR, tmp_path)
-    packed = written(COMPRESSED[name] + b"\0" * 100, tmp_path, "packed")
+    packed = written(COMPRESSED[how] + b"\0" * 100, tmp_path, "packed")
     assert (exact([*words, packed, "/dev/null"])
-            == ("", f"lrup-exact: {packed}: compressed: unpack it with {name}\n", 1))
+            == ("", f"lrup-exact: {packed}: compressed: unpack it with {how}\n", 1))
     assert (exact([*words, formula, packed])
-            == ("", f"lrup-exact: byte 1: compressed: unpack it with {name}\n", 1))
+            == ("", f"lrup-exact: byte 1: compressed: unpack it with {how}\n", 1))
 
 
 @pytest.mark.parametrize("line", ["6 3 0 1 0", "6 x 0 1 0", "6 2 1"])

@@ -395,6 +395,7 @@ def test_unreadable(words: str, tmp_path: Path) -> None:
     ("--format dimacs {formula}", "unknown form: dimacs"),
     ("{formula} x y", "unexpected argument: y"), ("{formula} -", "no such option: -"),
     ("--stream", "no value after --stream"),
+    ("--other --stream=1 {formula}", "no value after --other"),
     ("--stream x {formula}", "not a stream's number: x"),
     ("--stream 3 --streams 2 {formula}", "--stream takes 1 to the number of --streams"),
     ("--stream 2 {formula}", "--stream takes 1 to the number of --streams"),

@@ -20,9 +20,9 @@ from typing import (Any, Callable, Dict, Iterator, List, Mapping, NamedTuple, Op
 
 import pytest
 
-from harness import (FOUR, LIMIT, LRUP_RECHECK, ROOT, SMALL_ROW, Ran, Wanted, answers, each_of,
-                     executable, held, named, pack, piped, report, run, small, started, until,
-                     within, write_all, written)
+from harness import (FOUR, LIMIT, LRUP_RECHECK, PACKERS, ROOT, SMALL_ROW, Ran, Wanted, answers,
+                     each_of, executable, held, named, pack, piped, report, run, small, started,
+                     until, within, write_all, written)
 from rounds import ONE, fault, last, round_files, saved_name
 
 SHELLS = {"dash": ["dash"], "bash": ["bash"], "busybox": ["busybox", "sh"]}
@@ -239,22 +239,52 @@ def test_packed_streams(recheck: Recheck, forms: Sequence[str], formula: str,
     assert sorted(os.listdir(tmp_path / "d")) == names
 
 
-def test_a_packed_stream_that_is_truncated(recheck: Recheck, tmp_path: Path) -> None:
-    """The stream ends where it is truncated."""
-    names = lay_packed(["xz"], tmp_path)
+@pytest.mark.parametrize("form", PACKERS)
+def test_a_packed_stream_that_is_truncated(recheck: Recheck, form: str, tmp_path: Path) -> None:
+    """The file is named, after what its program says of it."""
+    names = lay_packed([form], tmp_path)
     path = tmp_path / "d" / names[0]
-    path.write_bytes(path.read_bytes()[:40])
+    path.write_bytes(path.read_bytes()[:20])
     done = recheck([*SMALL_ROW, "d", "formula"], cwd=tmp_path)
-    assert (done.out.splitlines()[-1], done.status) == ("s UNKNOWN", 3)
-    assert done.err.startswith("xz: ")
+    said = f"lrup-recheck: {PACKERS[form]} can't unpack d/{names[0]}"
+    assert (done.out, done.err.splitlines()[-1], done.status) == ("", said, 1)
     left = sorted(name for name in os.listdir(tmp_path / "d") if not name.endswith(".cnf"))
     assert left == names
+
+
+@pytest.mark.parametrize("body", ["exit 11", "head -c 3; exit 1", "kill -9 $$"])
+def test_an_unpacking_program_that_fails(recheck: Recheck, body: str, tmp_path: Path) -> None:
+    """A shell may say before that the program was killed."""
+    names = lay_packed(["gz", "zst"], tmp_path)
+    path = executable(body, tmp_path, "bin/zstd").parent
+    done = recheck([*SMALL_ROW, "d", "formula"], cwd=tmp_path,
+                   env={**os.environ, "PATH": f"{path}:{os.environ['PATH']}"})
+    said = f"lrup-recheck: zstd can't unpack d/{names[-2]}"
+    assert (done.out, done.err.splitlines()[-1], done.status) == ("", said, 1)
+
+
+def test_a_proof_that_does_without_a_stream(recheck: Recheck, tmp_path: Path) -> None:
+    """If a stream that can't be unpacked isn't needed, lrupd's verdict stands."""
+    lay(tmp_path, [REFUTING], {"d/round-1.stream-2.xz": "no xz\n"})
+    done = recheck([*SMALL_ROW, "d", "formula"], cwd=tmp_path)
+    assert (done.out.splitlines()[-1], done.status) == ("s UNSATISFIABLE", 0)
+
+
+@pytest.mark.parametrize("name, value", [
+    ("XZ_DEFAULTS", "--memlimit-decompress=4KiB"), ("XZ_OPT", "--memlimit-decompress=4KiB"),
+    ("GZIP", "--none"), ("BZIP", "--none"), ("BZIP2", "--none"), ("ZSTD_CLEVEL", "none")])
+def test_options_in_the_environment_are_not_for_us(recheck: Recheck, name: str, value: str,
+                                                   tmp_path: Path) -> None:
+    lay_packed(["xz", "gz", "bz2"] if name[0] != "Z" else ["zst"], tmp_path)
+    done = recheck([*SMALL_ROW, "d", "formula"], cwd=tmp_path, env={**os.environ, name: value})
+    assert done == Ran(REFUTED, "", 0)
 
 
 def test_without_the_unpacking_program_nothing_is_checked(recheck: Recheck,
                                                           tmp_path: Path) -> None:
     names = lay_packed(["xz"], tmp_path)
-    (tmp_path / "tr").symlink_to(str(shutil.which("tr")))
+    for tool in ("tr", "sed"):
+        (tmp_path / tool).symlink_to(str(shutil.which(tool)))
     shell = [str(shutil.which(recheck.shell[0])), *recheck.shell[1:]]
     done = recheck._replace(shell=shell)(["d", "formula"], cwd=tmp_path,
                                          env={"PATH": str(tmp_path)})
@@ -295,7 +325,7 @@ def digest_line(path: Path) -> str:
 
 
 def shown(path: Path) -> str:
-    return re.sub("[\x01-\x1f]", "?", str(path))
+    return re.sub("[\x01-\x1f\x7f-\x9f]", "?", str(path))
 
 
 def first_line(what: str, path: Path) -> str:
@@ -331,7 +361,8 @@ def want_answer(recheck: Recheck, words: Sequence[object], wanted: Ran, folder: 
 
 
 @pytest.mark.parametrize("name", [pytest.param("formula", id="plain"),
-                                  pytest.param("a\\b\nc \n", id="odd")])
+                                  pytest.param("a\\b\nc \n", id="odd"),
+                                  pytest.param("\xe9\x9b31m\u26c0\x80", id="controls")])
 def test_a_record(recheck: Recheck, name: str, tmp_path: Path) -> None:
     """From any folder. The formula is where formula.sha256 says, or has moved."""
     formula = lay_record(tmp_path, name=name)
@@ -363,6 +394,26 @@ def test_a_record_of_another_formula(recheck: Recheck, tmp_path: Path) -> None:
         said = f"{other if words[1:] else formula} isn't the formula of this record, or was changed"
         want_answer(recheck, words, Ran("", f"lrup-recheck: {said} since\n", 1), tmp_path)
         formula.write_text(OTHER)
+
+
+def test_a_record_whose_digests_do_not_end(recheck: Recheck, tmp_path: Path) -> None:
+    """They are read only up to the length that a run may have written."""
+    lay_record(tmp_path)
+    os.truncate(tmp_path / "d" / "formula.sha256", 1 << 40)
+    done = recheck(["d"], cwd=tmp_path, limit=20)
+    assert (done.out, done.status) == ("", 1)
+    assert done.err.endswith("x isn't there, or can't be read\n")
+
+
+def test_a_temporary_folder_that_is_not_in_utf_8(recheck: Recheck, tmp_path: Path) -> None:
+    """lrupd refuses its name, so it isn't asked."""
+    lay_record(tmp_path)
+    place = tmp_path / os.fsdecode(b"a\xff")
+    place.mkdir()
+    done = recheck(["d"], cwd=tmp_path, env={**os.environ, "TMPDIR": str(place)})
+    said = f"lrup-recheck: {place} isn't UTF-8, as lrupd needs it: choose another TMPDIR\n"
+    assert done == Ran("", said, 1)
+    assert os.listdir(place) == []
 
 
 def test_a_record_whose_formula_is_replaced(recheck: Recheck, tmp_path: Path) -> None:

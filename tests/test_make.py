@@ -10,12 +10,14 @@ import re
 import shutil
 import signal
 import subprocess
+import sys
 from pathlib import Path
-from typing import Any, Dict, List, Sequence
+from typing import Any, Dict, List, Sequence, Set
 
 import pytest
 
-from harness import BIN, OUT, ROOT, Ran, executable, run, started, text_of, until, written
+from harness import (BIN, OUT, ROOT, Ran, executable, named, run, started, text_of, until,
+                     write_all, written)
 
 LIMIT = 600
 # Where rt leaves the programs.
@@ -76,10 +78,13 @@ def false_rt(tested: Dict[str, str], tmp_path: Path) -> Path:
     return executable(FALSE_RT, tmp_path, "rt")
 
 
+def prefix(tree: Path) -> Path:
+    return tree.parent / "prefix"
+
+
 def make(tree: Path, rt: object, target: str) -> List[str]:
-    words = {"install": [f"PREFIX={tree.parent}/prefix"],
-             "test": ["TESTS=program_groups"], "gate": ["TESTS=program_groups"]}
-    return ["make", f"RT={rt}", *target.split(), *words.get(target, [])]
+    return ["make", f"RT={rt}", f"PREFIX={prefix(tree)}", target,
+            *["TESTS=program_groups"] * (target in ("test", "gate"))]
 
 
 def in_tree(tree: Path, rt: object, target: str) -> Ran:
@@ -115,12 +120,16 @@ def test_targets(tested: Dict[str, str], rt: str, targets: str, tmp_path: Path) 
 
 
 @pytest.mark.parametrize("targets", [
-    "build, gate, install, gate, test", "build, built, exact, trim, explain, solver, uninstall"])
+    "build, gate, install, gate, test",
+    "build, built, exact, trim, explain, solver, install, uninstall"])
 def test_targets_with_a_script_for_rt(tested: Dict[str, str], false_rt: Path, targets: str,
                                       tmp_path: Path) -> None:
+    """What `make install` has installed stays, but for `make uninstall`."""
     tree = copied(tmp_path, is_proved=False)
     want_made(tree, false_rt, targets.split(", "))
     want_whole(tree, tested)
+    left = {path.name for path in prefix(tree).rglob("*") if path.is_file()}
+    assert "lrupd" in left if not targets.endswith("uninstall") else left == set()
 
 
 def test_what_make_build_proves_again(tested: Dict[str, str], false_rt: Path,
@@ -137,6 +146,38 @@ def test_what_make_build_proves_again(tested: Dict[str, str], false_rt: Path,
         source.write("// A comment.\n")
     assert in_tree(tree, only_version, "build").status == 2
     want_whole(tree, tested)
+
+
+# What stands in HOME, and what a run of tests does there.
+HOME = {".bashrc": "# settings\n", ".gitconfig": "[user]\n", ".local/bin/lrupd": "1.0\n",
+        ".local/bin/other": "1\n", ".local/share/man/man1/other.1": "page\n", ".history": "make\n",
+        ".cache/other/file": "1\n", ".config/other/settings": "1\n", "text": "1\n"}
+TESTS_CHANGE = """\
+cd "$HOME" && rm .local/bin/lrupd && chmod 700 .local/bin/other && echo more >> .gitconfig &&
+touch -d 2020-01-01 .bashrc && mkdir .local/libexec .openmpi .config/new && echo 1 > .new &&
+ln -s text .local/share/man/man1/new.1"""
+OTHERS_CHANGE = """\
+cd "$HOME" && echo more >> .history && echo more >> text && touch -d 2020-01-01 .cache/other/file &&
+mkdir folder .cache/new && echo more >> .config/other/settings && echo 1 > .text.swp"""
+
+
+@pytest.mark.parametrize("does, changed", named([
+    ("what tests mustn't do", TESTS_CHANGE,
+     {".local/bin/lrupd", ".local/bin/other", ".gitconfig", ".bashrc", ".local/libexec",
+      ".openmpi", ".config/new", ".new", ".local/share/man/man1/new.1"}),
+    ("what other programs do", OTHERS_CHANGE, set())]))
+def test_what_changes_in_home(does: str, changed: Set[str], tmp_path: Path) -> None:
+    """A run of tests fails if programs or settings in HOME have changed meanwhile, and names each
+    file or folder. Histories, caches and documents may change."""
+    tree, home = copied(tmp_path, is_proved=False), tmp_path / "home"
+    write_all(HOME, home)
+    tests = executable(f"{does}\necho 1 passed", tmp_path, "tests")
+    done = run([sys.executable, "gate/tests.py", "--program=none", f"--pytest={tests}", "quotes"],
+               cwd=tree, env={**clean(), "HOME": str(home)})
+    found = re.findall(rf"^{re.escape(str(home))}/(\S+): ", done.out, re.M)
+    assert sorted(found) == sorted(changed)
+    if changed:
+        assert (last_line(done), done.status) == ("1 passed, 1 failed", 1)
 
 
 def test_a_gate_that_fails(tested: Dict[str, str], false_rt: Path, tmp_path: Path) -> None:

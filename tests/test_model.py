@@ -176,8 +176,10 @@ def test_answers_on_random_files(seed: int, tmp_path: Path) -> None:
     ("v 1 0\nv 2\n", Ran("", "lrup-model: model refused: literal after the 0 in line 2\n", 4)),
     ("v 1 +2 0\n", Ran("", "lrup-model: model refused: bad number in line 1\n", 4)),
     ("v 1\nv 4 0\n", Ran("", "lrup-model: model refused: variable out of range in line 2\n", 4)),
-    ("SAT\n1 2 0\n",
-     Ran("", "lrup-model: model refused: line 1 begins with neither v, s nor c\n", 4)),
+    ("s\ncv 4 0\nv 1 2 -3 0\n", FOUND),
+    *((f"{line}\nv 1 2 -3 0\n",
+       Ran("", "lrup-model: model refused: line 1 begins with neither v, s nor c\n", 4))
+      for line in ("SAT", "sat", "ss", " c x", "v1")),
     ("v 1 2 -3 0\n\0",
      Ran("", "lrup-model: model refused: line 2 begins with neither v, s nor c\n", 4)),
 ])

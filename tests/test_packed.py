@@ -1,6 +1,7 @@
 """Formulas, proofs and streams in xz, gzip, bzip2 and zstd: the tools read them as if they weren't
 compressed, if the file's name has the program's ending. The outputs have to be those for the plain
 files. A file that can't be unpacked is named; nothing else is said but what the program says."""
+import os
 import re
 import shutil
 import signal
@@ -122,6 +123,19 @@ def test_lrup_solve(program: str, ending: str, tmp_path: Path) -> None:
     assert done.status == 1
     assert run([*words, "--resume", kept, small]) == Ran("s UNSATISFIABLE\n", "", 20)
     check_again(kept)
+
+
+@pytest.mark.parametrize("tool", [FILTER, EXPLAIN, SOLVE, CHECK], ids=NAME)
+def test_options_in_the_environment_are_not_for_unpackers(
+        program: str, tool: Path, ending: str, tmp_path: Path) -> None:
+    formula, stream = copied(tmp_path)
+    options = ["-q", "--lrupd", program] * (tool in (SOLVE, CHECK))
+    words = [tool, *options, packed(formula, ending), *[packed(stream, ending)] * (tool != SOLVE)]
+    more = {"XZ_DEFAULTS": "--memlimit-decompress=4KiB", "GZIP": "--none", "BZIP2": "--none",
+            "ZSTD_CLEVEL": "none"}
+    plain = run(words)
+    assert plain.status in (0, 20)
+    assert run(words, env={**os.environ, **more}) == plain
 
 
 # Files that can't be unpacked.

@@ -25,8 +25,9 @@ from typing import Callable, Dict, List, NamedTuple, Optional, Sequence, Tuple
 import pytest
 
 from harness import (COMPRESSED, EXAMPLES, FILTER, FOUR, GENERATOR, SANITIZE, SANITIZING, TRIM,
-                     VERDICTS, VERSION, Ran, dimacs, example, generated, lacking, named, output_of,
-                     piped, random_clauses, run, sanitized, sanitizer, within, write_all, written)
+                     VERDICTS, VERSION, ZCAT, Ran, dimacs, example, generated, lacking, named,
+                     output_of, piped, random_clauses, run, sanitized, sanitizer, within, write_all,
+                     written)
 from faulty import garbled_text, refuted, solved
 from lrat import lrat_fault
 from proof_forms import Clause, Step, read_formula, read_steps
@@ -360,7 +361,7 @@ FAULT = (rf"lrup-trim: (\S+, line \d+: ({FAULTY_LINE})|no line derives the empty
          r"the run ends in round \d+, at that line|"
          r"needed line \d+: (no conflict by unit propagation: .*|"
          r"a variable that the formula doesn't have: \d+, above the header's \d+)|"
-         r"\S+: not STREAMS LINES ROOM|\S+: compressed: unpack it with \w+|"
+         r"\S+: not STREAMS LINES ROOM|\S+: compressed: unpack it with [^|]+|"
          r"\S+: No such file or directory)")
 
 
@@ -526,6 +527,8 @@ def test_digests(change: Callable[[str], str], is_right: bool, length: int, tmp_
     ("", 2, "error: no FORMULA"), ("f", 2, "error: no DIR or STREAM"),
     ("--cores x f s", 2, "error: no such option: --cores"),
     ("--core", 2, "error: no value after --core"),
+    ("--core --lrat x f s", 2, "error: no value after --core"),
+    ("--core --=x f s", 2, "error: no value after --core"),
     ("--stream x f s", 2, "error: --stream without --core"),
     ("--core x --core y f s", 2, "error: given twice: --core"),
     ("f" + " s" * 65, 2, "error: more than 64 streams, from s"),
@@ -539,8 +542,8 @@ def test_digests(change: Callable[[str], str], is_right: bool, length: int, tmp_
     ("p s", 1, "p: has to be a regular file, since it is read more than once"),
     ("f none", 1, "none: No such file or directory"),
     ("none s", 1, "none: No such file or directory"),
-    ("f z", 1, "z: compressed: unpack it with zcat"),
-    ("z s", 1, "z: compressed: unpack it with zcat"),
+    ("f z", 1, f"z: compressed: unpack it with {ZCAT}"),
+    ("z s", 1, f"z: compressed: unpack it with {ZCAT}"),
     ("f s", 1, "no line derives the empty clause"),
     ("s s", 1, "s, line 1: no header 'p cnf VARIABLES CLAUSES': not DIMACS CNF"),
     ("--assume none f s", 1, "none: No such file or directory"),
@@ -554,7 +557,7 @@ def test_refused(words: str, status: int, said: str, tmp_path: Path) -> None:
     """Runs in a folder with a formula f, a stream s, a pipe p, a folder d without rounds, files
     there and r.re-hint, and a compressed file z."""
     files = {"f": FOUR.encode(), "s": FIRST.encode(), "there": b"mine", "r.re-hint": b"",
-             "z": COMPRESSED["zcat"]}
+             "z": COMPRESSED[ZCAT]}
     write_all(files, tmp_path)
     piped(tmp_path / "p")
     (tmp_path / "d").mkdir()

@@ -3,10 +3,13 @@
 Proofs are written by CaDiCaL, CryptoMiniSat and PicoSAT, by the example solver, and by hand. They
 come from files, pipes and standard input, alone and several at once, in one round and in many. A
 step that doesn't follow gives no verdict, and its line and clause are named."""
+import contextlib
 import fcntl
 import os
 import pty
 import random
+import re
+import resource
 import shlex
 import shutil
 import signal
@@ -14,13 +17,14 @@ import subprocess
 import termios
 import threading
 import time
+from gzip import compress
 from pathlib import Path
-from typing import List, NamedTuple
+from typing import Iterator, List, NamedTuple
 
 import pytest
 
-from harness import (FOUR, PROGRAM, VERDICTS, VERSION, Ran, example, feed, generated, named, needs,
-                     piped, run, started, until, written)
+from harness import (FOUR, LIMIT, PROGRAM, VERDICTS, VERSION, ZCAT, Ran, example, executable, feed,
+                     generated, named, needs, piped, run, started, until, written)
 from lrat import lrat_fault
 from proof_forms import read_formula
 from solving import SOLVE, Answer, check, check_again, none_left, processes_of
@@ -210,36 +214,115 @@ def test_a_proof_without_the_assumptions_that_are_given(tmp_path: Path) -> None:
 NONE = "no conflict by unit propagation: the clause "
 RAT = " is a RAT step, which lrupd doesn't check"
 NOT_RAT = " doesn't follow from those that weren't deleted, and it isn't RAT"
-UNDELETED = ("It would follow if no clause had been deleted before it: see lrup-exact's "
-             "--ignore-deletions")
+TRYING = "trying whether it would follow if no clause had been deleted before it"
+WOULD, WOULD_NOT = "it would: see lrup-exact's --ignore-deletions", "it wouldn't"
+TOO_EARLY = "d 1 2 0\n2 0\n"            # of FOUR: a deletion
+FAULT = f"line 2: {NONE}2 0{NOT_RAT}"
 
 
-@pytest.mark.parametrize("formula, proof, cause", named([
+@pytest.mark.parametrize("option", ["--time=100", "-v"])
+@pytest.mark.parametrize("formula, proof, said", named([
     ("a clause that doesn't follow", "p cnf 2 3\n1 2 0\n-1 2 0\n1 -2 0\n", "2 0\n-1 0\n",
-     f"line 2: {NONE}-1 0{NOT_RAT}. Nor would it follow if none had been deleted"),
-    ("a RAT step", FIRST, "1 0\n", f"line 1: {NONE}1 0{RAT}"),
-    ("a deletion that came too early", FOUR, "d 1 2 0\n2 0\n1 0\n0\n",
-     f"line 2: {NONE}2 0{NOT_RAT}. {UNDELETED}"),
-    ("a proof that ends early", FOUR, SHORT, EARLY_END),
+     [f"line 2: {NONE}-1 0{NOT_RAT}", TRYING, WOULD_NOT]),
+    ("a RAT step", FIRST, "1 0\n", [f"line 1: {NONE}1 0{RAT}"]),
+    ("a deletion that came too early", FOUR, TOO_EARLY, [FAULT, TRYING, WOULD]),
+    ("the same in LRAT", FOUR, "4 d 1 0\n5 2 0 0\n", [FAULT, TRYING, WOULD]),
+    ("the same in FRAT", FOUR, "o 1 1 2 0\no 2 -1 2 0\nd 1 1 2 0\na 5 2 0\n",
+     [FAULT.replace("2", "4", 1), TRYING, WOULD]),
+    ("the same in binary", FOUR, "d\2\4\0a\4\0",
+     [FAULT.replace("line 2", "step 2, byte 5"), TRYING, WOULD]),
+    ("a proof that ends early", FOUR, SHORT, [EARLY_END]),
     ("a new variable", FIRST, "3 0\n",
-     "line 1: a variable that the formula doesn't have: 3, above the header's 2")]))
-def test_a_faulty_proof(formula: str, proof: str, cause: str, tmp_path: Path) -> None:
-    want_unknown(check_texts(formula, proof, tmp_path), f"{tmp_path}/proof: {cause}")
+     ["line 1: a variable that the formula doesn't have: 3, above the header's 2"])]))
+def test_a_faulty_proof(formula: str, proof: str, said: List[str], option: str,
+                        tmp_path: Path) -> None:
+    """There are a line that shows the step, and one or two on a trial without deletions."""
+    path = written(proof, tmp_path, "proof")
+    answer = check([option, written(formula, tmp_path), path])
+    assert (answer.answers, answer.said, answer.status) == (["s UNKNOWN"], "", 3)
+    assert [line for line in answer.comments if line.startswith(f"{path}:")] == [
+        f"{path}: {line}" for line in said]
 
 
-def test_a_step_that_does_not_follow_is_shown_once(tmp_path: Path) -> None:
-    """With -v, there is a second line: whether the step would follow without deletions."""
-    proof = written("d 1 2 0\n2 0\n1 0\n0\n", tmp_path, "proof")
-    comments = check(["-v", written(FOUR, tmp_path), proof]).comments
-    assert [line for line in comments if line.startswith(f"{proof}:")] == [
-        f"{proof}: line 2: {NONE}2 0{NOT_RAT}", f"{proof}: {UNDELETED}"]
+def test_a_faulty_proof_is_not_tried_if_nothing_is_said(tmp_path: Path) -> None:
+    answer = check(["-q", written(FOUR, tmp_path), written(TOO_EARLY, tmp_path, "proof")])
+    assert answer.ran == Ran("s UNKNOWN\n", "", 3)
+
+
+# Clauses that take a filter some time, and that no other clause needs.
+LONG, MANY = "p cnf 5 4\n1 2 0\n-1 2 0\n3 4 0\n-2 5 0\n", "3 4 0\n" * 300000
+
+
+def time_of_filters(proof: str, work: Path) -> float:
+    """Seconds of processor time, as the last line says."""
+    found = re.search(r"filters (\d+\.\d+)", check_texts(LONG, proof, work).comments[-1])
+    assert found
+    return float(found[1])
+
+
+def test_the_trials_processor_time_is_counted(tmp_path: Path) -> None:
+    """A RAT step isn't tried."""
+    untried = time_of_filters(MANY + "3 0\n", tmp_path)
+    assert time_of_filters(MANY + TOO_EARLY, tmp_path) > 1.5 * untried
+
+
+def test_a_trial_ends_at_the_step(tmp_path: Path) -> None:
+    """Steps after it cost no processor time."""
+    def used() -> float:
+        return resource.getrusage(resource.RUSAGE_CHILDREN).ru_utime
+
+    before = used()
+    check_texts(LONG, MANY, tmp_path)
+    whole = used() - before
+    answer = check_texts(LONG, TOO_EARLY + 3 * MANY, tmp_path)
+    assert answer.comments[1:3] == [f"{tmp_path}/proof: {line}" for line in (TRYING, WOULD)]
+    assert used() - before - whole < whole
+
+
+@contextlib.contextmanager
+def begun_trial(words: List[str], work: Path) -> Iterator["subprocess.Popen[str]"]:
+    """A check of a packed proof, which is unpacked once: a trial never gets a byte. The step, and
+    that it is tried, is said at once."""
+    gzip = executable(f"if [ -e {work}/unpacked ]; then exec sleep 100; fi\n"
+                      f'touch {work}/unpacked\nexec {shutil.which("gzip")} "$@"', work / "bin",
+                      "gzip")
+    proof = work / "proof.gz"
+    proof.write_bytes(compress(TOO_EARLY.encode()))
+    with started([CHECK, "--lrupd", PROGRAM, *words, written(FOUR, work), proof], text=True,
+                 stdout=subprocess.PIPE, stderr=subprocess.PIPE,
+                 env={**os.environ, "PATH": f"{gzip.parent}:{os.environ['PATH']}"}) as running:
+        assert running.stdout
+        assert [running.stdout.readline() for _ in range(2)] == [
+            f"c {proof}: {line}\n" for line in (FAULT, TRYING)]
+        yield running
+
+
+@pytest.mark.parametrize("words", [[], ["--time", "100"]], ids=" ".join)
+def test_a_trial_that_takes_too_long(words: List[str], mark: str, tmp_path: Path) -> None:
+    """It ends after a second, which counts, or after as much time as the check has taken."""
+    with begun_trial(words, tmp_path) as running:
+        out, said = running.communicate(timeout=LIMIT)
+    comments = Answer(Ran(out, said, running.returncode)).comments
+    assert comments[0] == f"{tmp_path}/proof.gz: that isn't known"
+    assert float(comments[-1].split()[0]) >= 1
+    assert (said, running.returncode) == ("", 3)
+    none_left(mark)
+
+
+def test_a_signal_ends_a_trial(mark: str, tmp_path: Path) -> None:
+    with begun_trial([], tmp_path) as running:
+        running.terminate()
+        out, said = running.communicate(timeout=LIMIT)
+    assert (out.splitlines()[-1], said, running.returncode) == ("s UNKNOWN", "", -signal.SIGTERM)
+    none_left(mark)
 
 
 NO_STEP = "line 1: neither a step of LRAT text nor one of DRUP or DRAT text"
 each_file_that_is_no_proof = pytest.mark.parametrize("proof, cause", named([
     ("empty", b"", EARLY_END), ("comments", b"c nothing\n\n", EARLY_END),
-    ("gzip", b"\x1f\x8b garbled", "byte 1: compressed: unpack it with zcat"),
-    ("xz", b"\xfd7zXZ\0 garbled", "byte 1: compressed: unpack it with xzcat"),
+    ("gzip", b"\x1f\x8b garbled", f"byte 1: compressed: unpack it with {ZCAT}"),
+    ("xz", b"\xfd7zXZ\0 garbled",
+     "byte 1: compressed: unpack it with xzcat, or end its name with .xz"),
     ("zip", b"PK\3\4\x14\0\xff", "line 1: neither text nor a binary proof"),
     ("a program", b"\x7fELF\2\1\1\0\0\xff", "line 1: neither text nor a binary proof"),
     ("a formula", FIRST.encode(), NO_STEP), ("an answer", b"s UNSATISFIABLE\n", NO_STEP)]))
@@ -299,17 +382,17 @@ def check_with(options: str, proof: str, work: Path) -> Answer:
 
 
 @pytest.mark.parametrize("options, status", [
-    ("", 0), ("--expect unsat", 0), ("-q --expect unsat", 0), ("--proofs --expect", 0),
-    ("--proofs --assume --", 0), ("--expect unsat-under-assumptions", 1)])
+    ("", 0), ("--expect unsat", 0), ("-q --expect unsat", 0), ("--proofs=--expect", 0),
+    ("--proofs=--assume --", 0), ("--expect unsat-under-assumptions", 1)])
 def test_status_of_a_proof(options: str, status: int, tmp_path: Path) -> None:
-    """It is 0 unless another answer is expected. Values may look like options."""
+    """It is 0 unless another answer is expected. Values after = may look like options."""
     answer = check_with(options, PROOF, tmp_path)
     assert (answer.answers, answer.status) == (["s UNSATISFIABLE"], status), answer.said
 
 
 @pytest.mark.parametrize("options, status", [
-    ("-q", 3), ("--expect=unsat", 1), ("--expect unsat", 1), ("--proofs --expect", 3),
-    ("--proofs=--expect", 3), ("--proofs --help", 3)])
+    ("-q", 3), ("--expect=unsat", 1), ("--expect unsat", 1),
+    ("--proofs=--expect", 3), ("--proofs=--help", 3)])
 def test_status_of_a_proof_that_ends_early(options: str, status: int, tmp_path: Path) -> None:
     """It isn't 0, whatever words there are."""
     answer = check_with(options, SHORT, tmp_path)
@@ -332,6 +415,7 @@ STARTS_NONE = "is lrup-solve's: lrup-check starts no engine"
     ("--no-share formula proof", f"--no-share {STARTS_NONE}"),
     ("formula proof --seed=1", f"--seed {STARTS_NONE}"),
     ("-j 0 formula proof", "-j takes 1 to 64, not 0"),
+    ("--proofs --expect=unsat formula proof", "no value after --proofs"),
     ("--expect sat formula proof",
      "--expect takes unsat or unsat-under-assumptions, not sat")])
 def test_words_that_are_refused(words: str, said: str, tmp_path: Path) -> None:

@@ -95,6 +95,37 @@ def test_before_lrupd_starts(tmp_path: Path) -> None:
     assert said(answer) == (["s UNSATISFIABLE"], 0, "", [])
 
 
+@pytest.mark.parametrize("comes_from", ["a file", "a pipe"])
+@pytest.mark.parametrize("megabytes", [1, 3])
+def test_usual_filters(megabytes: int, comes_from: str, tmp_path: Path) -> None:
+    """One for each free core, if a file has a megabyte for each. A pipe's writer needs a core."""
+    formula, cores = written("p cnf 2 1\n1 2 0\n", tmp_path), len(os.sched_getaffinity(0))
+    steps = b"1 2 0\n" * (megabytes * 180000)
+    for busy in {0, 1, cores}:
+        path = tmp_path / f"proof-{busy}"
+        if comes_from == "a pipe":
+            feed(piped(path), [steps])
+        else:
+            path.write_bytes(steps)
+        answer = check(["-v", formula, path], tested={"LOAD": 100 * cores, "RUNNING": 1 + busy})
+        free = max(1, cores - busy)
+        filters = min(16, megabytes, free) if comes_from == "a file" else max(1, min(17, free) - 1)
+        command, = [line for line in answer.comments if " --tries" in line]
+        assert command.count("round-1.stream-") == filters, answer.out
+
+
+@pytest.mark.parametrize("form", FORMS)
+def test_usual_filters_of_a_form(form: str, tmp_path: Path) -> None:
+    """A proof whose first steps have hints has at most two."""
+    formula, proof = in_form(form, 1, tmp_path)
+    steps, cores = proof.read_bytes(), len(os.sched_getaffinity(0))
+    proof.write_bytes(steps * (cores * 1100000 // len(steps)))
+    answer = check(["-v", formula, proof], tested={"LOAD": 1, "RUNNING": 1})
+    command, = [line for line in answer.comments if " --tries" in line]
+    most = 2 if "LRAT" in form or re.search("with .*hints", form) else 16
+    assert command.count("round-1.stream-") == min(most, cores), answer.out
+
+
 @pytest.mark.parametrize("window", (1, 7, 40))
 @pytest.mark.parametrize("form", ("LRAT text", "DRAT text", "binary DRAT", "FRAT with some hints"))
 def test_in_rounds(form: str, window: int, tmp_path: Path) -> None:
@@ -284,7 +315,8 @@ def test_no_room_for_several_filters(tmp_path: Path) -> None:
     hooks = {"WINDOW": 7, "FIRST_WORDS": 6000}
     answer = check(["-j", 3, *words], tested=hooks)
     assert (answer.answers, answer.status) == (["s UNSATISFIABLE"], 0), answer.out
-    assert any("leave no room, so one filter" in line for line in answer.comments), answer.out
+    cause = f"{proof}: the remaining clauses leave no room in a row of .* bytes, so {ONE_CHECKS}"
+    assert any(re.fullmatch(cause, line) for line in answer.comments), answer.out
 
 
 # Ends of processes.
@@ -323,6 +355,8 @@ def test_killed(name: str, tmp_path: Path) -> None:
     none_left(mark)
     if name == "engine 1":
         assert (answer.answers, answer.status) == (["s UNKNOWN"], 3), answer.out
+        cause = f"{tmp_path}/pipe: it can't be read: its process ended by a signal: Killed"
+        assert cause in answer.comments, answer.out
     else:
         cause = f"{tmp_path}/pipe: a filter ended by a signal: Killed, so {ONE_CHECKS}"
         assert cause in answer.comments, answer.out
@@ -336,11 +370,11 @@ def test_filters_killed_at_random(seed: int, tmp_path: Path) -> None:
     mark, numbers = marked(tmp_path), random.Random(seed)
     formula, proof = in_form(numbers.choice(list(FORMS)), seed, tmp_path)
     hooks = {"WINDOW": numbers.choice(WINDOWS), "FIRST_WORDS": 3000, "SAME_WORDS": 1}
-    given: object = proof
+    kept, given = tmp_path / "kept", proof
     if seed % 2:
         given = piped(tmp_path / "pipe")
         feed(tmp_path / "pipe", [proof.read_bytes()])
-    with running_check(formula, given, hooks) as running:
+    with running_check(formula, given, hooks, "--proofs", kept) as running:
         time.sleep(numbers.uniform(0, 0.15))
         pid = children_of(running.pid).get(f"filter {numbers.randrange(1, 4)}", 0)
         if is_alive(pid):
@@ -352,18 +386,26 @@ def test_filters_killed_at_random(seed: int, tmp_path: Path) -> None:
         assert (answer.answers, answer.status) == (["s UNKNOWN"], 3), answer.out
         assert any(line.endswith(ONE_CHECKS) and "Killed" not in line
                    for line in answer.comments), answer.out
+    else:
+        check_again(kept)
+
+
+def of_rounds(kept: Path) -> Dict[str, bytes]:
+    """A record's streams and sizes."""
+    return {path.name: path.read_bytes() for path in kept.glob("round-*")}
 
 
 @pytest.mark.parametrize("moment", ("ENDING", "SAVING"))
 @pytest.mark.parametrize("name", FILTERS)
 def test_killed_between_rounds(name: str, moment: str, tmp_path: Path) -> None:
     """A filter is killed once all have ended a round, which lrupd can't save yet; or once another
-    one has."""
+    one has. The record is what one filter would have left."""
     mark, (formula, proof) = marked(tmp_path), long_proof("LRAT text", tmp_path)
+    kept, by_one = tmp_path / "kept", tmp_path / "by one"
     hooks = {"WINDOW": 7, "FIRST_WORDS": 6000, "SAME_WORDS": 1, "TRIES": 1000000}
     stopped = "lrupd" if moment == "SAVING" else FILTERS[FILTERS.index(name) - 1]
     pipe, data = held(tmp_path / "pipe"), proof.read_bytes()
-    with running_check(formula, tmp_path / "pipe", hooks) as running:
+    with running_check(formula, tmp_path / "pipe", hooks, "--proofs", kept) as running:
         until("all are there", lambda: {*FILTERS} <= {*children_of(running.pid)})
         pipe.write(data[:2000])
         until("lrupd is there", lambda: "lrupd" in children_of(running.pid))
@@ -373,15 +415,15 @@ def test_killed_between_rounds(name: str, moment: str, tmp_path: Path) -> None:
         writer.start()
         sleep([children[name]])
         os.kill(children[name], signal.SIGKILL)
-        time.sleep(0.3)
-        if stopped == "lrupd":
-            os.kill(children[stopped], signal.SIGCONT)
         answer = end_of(running)
         writer.join()
     none_left(mark)
     assert (answer.answers, answer.status) == (["s UNSATISFIABLE"], 0), answer.out
     assert any("Killed" in line and line.endswith(ONE_CHECKS)
                for line in answer.comments), answer.out
+    assert check(["-j", 1, "--proofs", by_one, formula, proof], tested=hooks).status == 0
+    assert of_rounds(kept) == of_rounds(by_one)
+    check_again(kept)
 
 
 def test_a_stop_while_a_filter_waits(tmp_path: Path) -> None:

@@ -66,6 +66,33 @@ def test_a_satisfiable_formula(options: List[str], tmp_path: Path) -> None:
     want_answer(solve([*options, formula]), 10, formula)
 
 
+@pytest.mark.parametrize("load, running, busy", [
+    (1, 9, 0), (49, 9, 0), (50, 9, 1), (149, 9, 1), (150, 9, 2), (800, 1, 0), (800, 2, 1),
+    (800, 3, 2), (800, 9, 8)])
+def test_usual_engines(load: int, running: int, busy: int) -> None:
+    """Half of the free cores: the load of the last minute, rounded, isn't free, unless fewer other
+    processes run."""
+    answer = solve([example("bmc.cnf")], tested={"LOAD": load, "RUNNING": running})
+    want_answer(answer, 20)
+    engines = max(1, (len(os.sched_getaffinity(0)) - busy) // 2)
+    assert re.search(rf" s, {engines} engines?, ", answer.comments[-1]), answer.out
+
+
+@pytest.mark.parametrize("attempt", range(5))
+def test_lrupd_ends_before_its_streams(attempt: int, tmp_path: Path) -> None:
+    """Otherwise it would save its clauses once the time is up."""
+    body = f"""case "$*" in *' /dev/null') exec {PROGRAM} "$@";; esac
+for stream; do :; done
+cat "$stream" > /dev/null
+touch {tmp_path}/ended
+sleep 100"""
+    answer = solve(["-j", "1", "--time", "1", "--lrupd", in_place_of_lrupd(body, tmp_path),
+                    generated("random 300 1", tmp_path)], tested={"FIRST_WORDS": 1 << 20})
+    want_answer(answer, 0)
+    assert answer.comments[0] == "time is up"
+    assert not (tmp_path / "ended").exists()
+
+
 @pytest.mark.parametrize("options, is_shared", [([], True), (["--no-share"], False)],
                          ids=["shared", "not shared"])
 def test_clauses_are_shared(options: List[str], is_shared: bool, tmp_path: Path) -> None:

@@ -39,7 +39,7 @@ SEEDS = range(SEED, SEED + (1 + int(600 * MINUTES) if MINUTES else COUNT or FEW)
 LIMIT = 60      # seconds within which each run has to end
 SOON = 20       # seconds in which all processes have to end after the front
 LARGEST = 1 << 28       # bytes of a file
-STATUSES_OF_CHECK = {UNKNOWN: 3, FOUND: 10, PROVED: 0, UNDER: 8}
+STATUSES_OF_CHECK = {UNKNOWN: 3, PROVED: 0, UNDER: 8}
 SHOWN = re.compile(r"usage: lrup-|lrup-(solve|check) \d")       # help, or a version
 Files = Dict[Path, Tuple[object, ...]]
 

@@ -1,5 +1,6 @@
 """What lrup-solve shows during a run: the progress line of a terminal, which no comment may touch,
 and the lines of JSON for programs."""
+import contextlib
 import json
 import os
 import pty
@@ -133,6 +134,29 @@ def test_the_answer_in_json(words: Sequence[object], text: str, line: Optional[s
     objects = [json.loads(text) for text in done.err.splitlines() if text.startswith("{")]
     assert [found["answer"] for found in objects][-1:] == answer, done
     assert [text for text in done.out.splitlines() if text.startswith("s ")] == answer
+
+
+@pytest.mark.parametrize("words, text, status", [
+    (["--time", 3, "-j", 1], None, 0), ([], FOUR, 20)], ids=["out of time", "proved"])
+def test_json_that_nobody_reads(words: Sequence[object], text: Optional[str], status: int,
+                                tmp_path: Path) -> None:
+    """The pipe is full. The run goes on without these lines."""
+    formula = written(text, tmp_path) if text else generated(HARD, tmp_path)
+    ends = os.pipe()
+    os.set_blocking(ends[1], False)
+    with contextlib.suppress(BlockingIOError):
+        while os.write(ends[1], bytes(4096)):
+            pass
+    os.set_blocking(ends[1], True)
+    begun = time.monotonic()
+    with subprocess.Popen(command([*words, "--progress", "json", formula]), stderr=ends[1],
+                          stdout=subprocess.DEVNULL) as process:
+        try:
+            assert process.wait(60) == status
+        finally:
+            os.close(ends[0])
+            os.close(ends[1])
+    assert time.monotonic() - begun < 10
 
 
 def test_another_form_than_json(tmp_path: Path) -> None:

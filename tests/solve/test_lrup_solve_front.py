@@ -19,8 +19,8 @@ from harness import (FOUR, LIMIT, PROGRAM, ROOT, VERSION, Ran, executable, named
                      started, until, written)
 from hostile import (AGAIN, FOUND, PROOF, PROVED, SATISFIABLE, UNDER, UNKNOWN, assert_answer,
                      is_model, printed, program, run_with)
-from solving import (SOLVE, Answer, before_lrupd, children_of, in_place_of_lrupd, marked, none_left,
-                     with_model)
+from solving import (SOLVE, Answer, before_lrupd, check, children_of, in_place_of_lrupd, marked,
+                     none_left, with_model)
 
 pytestmark = pytest.mark.usefixtures("lrup_solve")
 FRONT = ROOT / "tools" / "lrup-solve" / "front.c"
@@ -233,6 +233,11 @@ def test_no_end(body: str, tmp_path: Path) -> None:
     assert_answer(run_with(body, ["-q", *A_SECOND], SATISFIABLE, tmp_path), UNKNOWN)
 
 
+def test_lrup_engines_is_late(tmp_path: Path) -> None:
+    answer = run_with("time.sleep(1000)", A_SECOND, SATISFIABLE, tmp_path)
+    assert answer.ran == Ran("c no answer: lrup-engines is late\ns UNKNOWN\n", "", 0)
+
+
 @pytest.mark.parametrize("end", named([
     ("killed", "os.kill(os.getpid(), 9)"), ("a crash", "os.kill(os.getpid(), 11)"),
     ("status 0", "os._exit(0)"), ("status 1", "os._exit(1)"), ("status 20", "os._exit(20)"),
@@ -345,6 +350,13 @@ def test_a_formula_that_lrup_model_refuses(text: str, signs: str, tmp_path: Path
     assert cause.startswith("lrup-model ended with status 4: lrup-model: formula refused: ")
 
 
+def test_lrup_check_takes_no_model(tmp_path: Path) -> None:
+    """It has no status for one that is right."""
+    answer = check(["--engines", program(HAS_MODEL, tmp_path), written(SATISFIABLE, tmp_path),
+                    os.devnull])
+    assert answer.ran == Ran("s UNKNOWN\n", "", 3)
+
+
 @pytest.mark.parametrize("body", ["sleep 100", "kill -STOP $$"])
 def test_lrup_model_is_late(body: str, tmp_path: Path) -> None:
     """--time ends it, even if it is stopped."""
@@ -410,7 +422,7 @@ def test_lrupds_status(status: int, words: List[str], line: str, tmp_path: Path)
     assert answer.answers == [line], printed(answer)
 
 
-# lrupd is started once, and its status is its own.
+# lrupd is started once, unless a proof is begun again, and its status is its own.
 
 
 def skip_if_no_process_had(tmp_path: Path) -> None:
@@ -471,6 +483,57 @@ def test_lrupd_is_started_once(body: str, tmp_path: Path) -> None:
     asks = f"{PROVES_NOTHING}check()\ntime.sleep(0.5)\ncheck()\ntime.sleep(0.5)"
     assert_answer(run_with(asks, [], SATISFIABLE, tmp_path, lrupd), UNKNOWN)
     assert len(starts.read_text().splitlines()) == 1
+
+
+# lrupd waits for its stream, and the front kills it. Nothing is left in the folder.
+AGAIN_ASKED = """
+def begins_again():
+    os.mkfifo(folder + '/round-1.stream-1')
+    check()
+    feeding = open(folder + '/round-1.stream-1', 'w')
+    say('over')
+    hears('over')
+    for name in os.listdir(folder):
+        os.unlink(folder + '/' + name)
+"""
+
+
+def begins(body: str) -> str:
+    return f"{AGAIN_ASKED}{body}\n"
+
+
+@pytest.mark.parametrize("is_piped", [False, True], ids=["named", "by a pipe"])
+@pytest.mark.parametrize("body, text, line", named([
+    ("and there is a proof", begins("begins_again()") + PROVES + ENDS, FOUR, PROVED),
+    ("twice", begins("begins_again()\nbegins_again()") + PROVES + ENDS, FOUR, PROVED),
+    ("and there is none", begins("begins_again()") + PROVES_NOTHING, FOUR, UNKNOWN),
+    ("and there is another's", begins("begins_again()") + PROVES + ENDS, SATISFIABLE, UNKNOWN),
+    ("and lines are forged", begins(f"begins_again()\n{FORGES}") + PROVES_NOTHING + FORGES,
+     SATISFIABLE, UNKNOWN),
+    ("and none is requested", begins(f"begins_again()\n{FORGES}"), SATISFIABLE, UNKNOWN),
+    ("and there is a model", begins("begins_again()") + HAS_MODEL, SATISFIABLE, FOUND),
+    ("before one is requested", f"say('over')\n{PROVES}{ENDS}", FOUR, PROVED),
+    ("once it has a verdict", f"{PROVES}{ENDS}say('over')\ncheck()\ntime.sleep(1)", FOUR, PROVED),
+    ("once it has ended", f"{PROVES_NOTHING}say('over')\n{PROVES}{ENDS}", FOUR, UNKNOWN),
+    ("once it was killed", f"{KILLED}killed()\nsay('over')\n{PROVES}{ENDS}", FOUR, UNKNOWN)]))
+def test_lrupd_is_started_again(body: str, text: str, line: str, is_piped: bool,
+                                tmp_path: Path) -> None:
+    """The front has killed an lrupd that ran, since lrup-engines has asked for that."""
+    answer = run_with(body, ["--time", "15"], text, tmp_path, given=text if is_piped else None)
+    assert_answer(answer, line)
+
+
+@pytest.mark.parametrize("said, then", [
+    ("s UNSATISFIABLE\\n", "exit 0"), ("s UNSATISFIABLE\\n", "exit 3"),
+    ("s UNSATISFIABLE\\n", "echo s UNKNOWN; exit 0"), ("s UNSAT", "echo ISFIABLE; exit 0")])
+def test_the_first_output_does_not_count(said: str, then: str, tmp_path: Path) -> None:
+    """Programs in lrupd's place: the first one says the answer, or its beginning, and is killed."""
+    there = tmp_path / "said"
+    lrupd = in_place_of_lrupd(
+        f"[ -e {there} ] && {{ {then}; }}; printf '{said}'; touch {there}; sleep 100", tmp_path)
+    body = (f"check()\nwhile not os.path.exists({str(there)!r}): time.sleep(0.01)\n"
+            f"say('over')\nhears('over')\ncheck()\n{ENDS}")
+    assert_answer(run_with(body, ["--time", "20"], SATISFIABLE, tmp_path, lrupd), UNKNOWN)
 
 
 def test_a_process_with_lrupds_id(tmp_path: Path) -> None:
@@ -597,7 +660,13 @@ def expecting(words: Sequence[str], tmp_path: Path) -> Iterator[Ran]:
     (["--seed="], "--seed takes a value, not ''"),
     (["--cubes", ""], "--cubes takes a value, not ''"),
     (["-j", ""], "-j takes a value, not ''"), (["--assume="], "--assume takes a value, not ''"),
+    (["--proofs"], "no value after --proofs"), (["-j"], "no value after -j"),
+    (["-qj"], "no value after -qj"), (["--seed", "--"], "no value after --seed"),
     (["--nothing"], "no such option: --nothing (--help lists them)"),
+    (["-t", "5"], "no such option: -t (did you mean --time?)"),
+    (["-t5"], "no such option: -t5 (did you mean --time?)"),
+    (["--timeout", "5"], "no such option: --timeout (did you mean --time?)"),
+    (["--timeout=5"], "no such option: --timeout=5 (did you mean --time?)"),
     (["--seeds", "1"], "no such option: --seeds (--help lists them)"),
     (["--see=1"], "no such option: --see=1 (--help lists them)"),
     (["--exp", "sat"], "no such option: --exp (--help lists them)"),
@@ -670,7 +739,7 @@ def test_help_and_version(word: str, tmp_path: Path) -> None:
                  ["-q", "--engines", engines, word]):
         out = output_of(run([SOLVE, *line]))
         if word == "--version":
-            assert out == f"lrup-solve {VERSION}\n"
+            assert re.fullmatch(f"lrup-solve {re.escape(VERSION)}, with CaDiCaL [^\n]+\n", out)
         else:
             assert out.startswith("usage: lrup-solve ")
 
@@ -703,10 +772,17 @@ def test_a_core(body: str, comment: str, tmp_path: Path) -> None:
 
 
 def test_what_the_front_includes() -> None:
-    """Only the supervisor, the texts of --help, and a list of options are compiled with the trusted
-    code."""
+    """Only the supervisor, the texts of --help and --version, and lists of options and of programs
+    that unpack are compiled with the trusted code. Beside its list the last has one function, which
+    takes variables out of a program's environment."""
     included = re.findall(r'^#include "(.*)"$', FRONT.read_text(), re.M)
-    assert included == ["supervisor.h", "lrup-solve.help.h", "lrup-check.help.h", "options.def"]
+    assert included == ["../lib/packers.h", "supervisor.h", "with_cadical.h", "lrup-solve.help.h",
+                        "lrup-check.help.h", "options.def"]
+    packers = (FRONT.parent / included[0]).read_text()
+    assert re.findall(r"^static.*", packers, re.M) == [
+        "static const struct {", "static inline void packers_forget_options(void) {"]
+    assert re.findall(r"(\w+)\(", re.sub(r"^//.*", "", packers, flags=re.M)) == [
+        "packers_forget_options", "unsetenv"]
     option = r"""(FLAG|VALUES?)\(\w+, "[a-z-]+", ([A-Z_]+|'\w'), [01]\)"""
     lines = FRONT.with_name("options.def").read_text().splitlines()
     assert [line for line in lines if line[:2] != "//" and not re.fullmatch(option, line)] == [

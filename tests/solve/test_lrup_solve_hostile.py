@@ -60,7 +60,7 @@ CANNOT_FAIL = set("""__assert_fail __errno_location __isoc23_strtoul __stack_chk
     clock_gettime dirname err errx exit ferror fileno getenv getopt_long getpid getppid optarg
     opterr optind program_invocation_short_name sigaddset sigemptyset sigfillset stdout strchr
     strcmp strcspn strlen strncat strncmp strrchr strsep strsignal strspn strtod strtoul supervise
-    warnx""".split())
+    unsetenv warnx""".split())
 ERRORS: Dict[str, Tuple[str, ...]] = {
     "read": ("EIO", "EINTR", "short"), "write": ("ENOSPC", "EINTR", "short"),
     "pread": ("EIO", "EINTR", "short"),

@@ -6,6 +6,7 @@ import re
 import shlex
 import shutil
 import signal
+import socket
 import subprocess
 import time
 from pathlib import Path
@@ -546,6 +547,12 @@ def test_names_on_standard_error(name: bytes, shown: str, tmp_path: Path) -> Non
 
 
 @each_name
+def test_words_on_standard_error(name: bytes, shown: str, tmp_path: Path) -> None:
+    answer = solve([written(FOUR, tmp_path), os.fsdecode(name)])
+    assert answer.said.endswith(f"unexpected argument: '{shown}'\n")
+
+
+@each_name
 def test_assumptions_on_standard_error(name: bytes, shown: str, tmp_path: Path) -> None:
     cube = written(name + b" 0\n", tmp_path, "cube")
     answer = solve(["--assume", cube, written(FOUR, tmp_path)])
@@ -636,11 +643,26 @@ def test_arguments_that_are_refused(words: List[str], said: str, tmp_path: Path)
     want_refused(words, said, cwd=tmp_path)
 
 
-@pytest.mark.parametrize("name", COMPRESSED)
-def test_a_compressed_formula(name: str, tmp_path: Path) -> None:
+@pytest.mark.parametrize("words, said", [
+    (["socket"], "socket: No such device or address"),
+    (["--assume", "socket", "formula"], "socket: No such device or address"),
+    (["/dev/fd/99"], "/dev/fd/99: No such file or directory"),
+    (["--assume", "/dev/fd/99", "formula"], "/dev/fd/99: No such file or directory")])
+def test_inputs_that_cannot_be_opened(words: List[str], said: str, tmp_path: Path,
+                                      monkeypatch: pytest.MonkeyPatch) -> None:
+    monkeypatch.chdir(tmp_path)
+    written(FOUR, tmp_path, "formula")
+    with socket.socket(socket.AF_UNIX) as place:
+        place.bind("socket")
+        assert solve(words).ran == Ran("", f"lrup-solve: {said}\n", 1)
+
+
+@pytest.mark.parametrize("name", ["packed", "packed.GZ", "packed.lzma"])
+@pytest.mark.parametrize("how", COMPRESSED)
+def test_a_compressed_formula(how: str, name: str, tmp_path: Path) -> None:
     """Its name doesn't say that it is compressed."""
-    written(COMPRESSED[name], tmp_path, name)
-    want_refused([name], f"{name}: compressed: unpack it with {name}", cwd=tmp_path)
+    written(COMPRESSED[how], tmp_path, name)
+    want_refused([name], f"{name}: compressed: unpack it with {how}\n", cwd=tmp_path)
 
 
 def test_a_folder_in_place_of_the_formula(tmp_path: Path) -> None:
@@ -670,7 +692,7 @@ def refused_formulas() -> Iterator[Refused]:
                       f"not a number: {word}")
     for text, line in (
             ("", 1), ("c x\n", 2), ("1 2 0\n", 1), ("pcnf 1 1\n1 0\n", 1), ("P CNF 1 1\n1 0\n", 1),
-            (" c x\np cnf 1 1\n1 0\n", 1), ("\ufeffp cnf 1 1\n1 0\n", 1),
+            (" c x\np cnf 1 1\n1 0\n", 1), ("c\n\ufeffp cnf 1 1\n1 0\n", 2),
             ("p\vcnf 1 1\n1 0\n", 1), ("p\0 cnf 1 1\n1 0\n", 1), ("%\np cnf 1 1\n1 0\n", 1)):
         yield Refused(text, "no header", line, header)
     for text, line in (
@@ -678,8 +700,15 @@ def refused_formulas() -> Iterator[Refused]:
             ("p cnf 00 0\n", 1), ("p cnf +1 1\n1 0\n", 1), ("p cnf 1 -1\n1 0\n", 1),
             ("p cnf -0 0\n", 1), ("p cnf 1 x\n1 0\n", 1), ("p cnf\n1 1\n1 0\n", 1),
             ("p\ncnf 1 1\n1 0\n", 1), ("p cnf 1 1\v\n1 0\n", 1), ("p cnf 1\f1\n1 0\n", 1),
-            ("p CNF 1 1\n1 0\n", 1), ("p sat 1\n", 1)):
+            ("p", 1), ("p\t\n", 1)):
         yield Refused(text, "bad header", line, header)
+    for text, word in (("p CNF 1 1\n1 0\n", "CNF"), ("p wcnf 1 1 2\n2 1 0\n", "wcnf"),
+                       ("p sat 1\n", "sat"), ("p cnf\v1 1\n1 0\n", "cnf?1"),
+                       ("p " + "x" * 30, "x" * 21 + ".."), ("p \ufeff\n", "???")):
+        yield Refused(text, "bad header", 1, f"the header begins with 'p {word}', not 'p cnf'")
+    for text in ("\ufeff", "\ufeffp cnf 1 1\n1 0\n", "\ufeffc x\np cnf 1 1\n1 0\n", "\ufeff\n"):
+        yield Refused(text, "no header", 1,
+                      "a byte-order mark comes first: tail -c +4 removes it")
     for text in ("p cnf 2 1 1 2 0\n", "p cnf 1 1 c x\n1 0\n", "p cnf 1 1\r1 0\r",
                  "p cnf 1 1 \v\n1 0\n", "p cnf 1 1 1\n1 0\n"):
         yield Refused(text, "bad header", 1,

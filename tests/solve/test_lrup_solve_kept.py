@@ -580,6 +580,7 @@ def test_the_fields_of_about(engines: int, is_piped: bool, tested: Hooks, tmp_pa
     assert fields["folder"] == str(tmp_path)
     assert fields["verdict"] == PROVED
     assert fields["programs"].startswith(f"lrupd {VERSION}; lrup-solve {VERSION}, with CaDiCaL ")
+    assert fields["kit"].startswith("rattle-kit-")
     assert f"`{fields['kit']}`" in (ROOT / "README.md").read_text()
     assert fields["record"].split(" round")[0] == str(number_of_rounds(tmp_path / "d"))
 

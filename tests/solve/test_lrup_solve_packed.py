@@ -17,8 +17,8 @@ from typing import Dict, List, Optional, Sequence
 
 import pytest
 
-from harness import (EXPLAIN, LRUP_RECHECK, NONE_BAD, PROGRAM, Ran, executable, generated, needs,
-                     output_of, pack, run, until)
+from harness import (EXPLAIN, LRUP_RECHECK, NONE_BAD, PACKERS, PROGRAM, Ran, executable, generated,
+                     needs, output_of, pack, run, until)
 from records import (CHANGES, checkpoints, killed_once, only_with, recorded, saved_rounds,
                      want_no_other, way_on, whole)
 from solving import (Answer, children_of, end_of, is_alive, listed, none_left, solve, started_run,
@@ -73,10 +73,12 @@ def unpacked(path: Path) -> bytes:
     return done.stdout
 
 
-def with_zstd(body: str, work: Path) -> Dict[str, str]:
-    """An environment in which zstd does this first if it packs."""
+def with_zstd(body: str, work: Path, packs: bool = True) -> Dict[str, str]:
+    """An environment in which zstd does this first if it packs, or if it unpacks a stream of
+    round 3."""
     own = shlex.quote(str(shutil.which("zstd")))
-    path = executable(f"case $1 in -1*) {body};; esac\nexec {own} \"$@\"", work, "bin/zstd")
+    case = "case $1 in -1*)" if packs else "case $(readlink /proc/$$/fd/0) in */round-3.*)"
+    path = executable(f"{case} {body};; esac\nexec {own} \"$@\"", work, "bin/zstd")
     return {"PATH": f"{path.parent}:{os.environ['PATH']}"}
 
 
@@ -279,7 +281,13 @@ def change(path: Path, how: str) -> None:
     elif how == "garbled":
         path.write_bytes(b"no zstd\n" + text)
     else:
-        path.write_bytes(path.with_name(path.name.replace("stream-2", "stream-1")).read_bytes())
+        other, = set(path.parent.glob(re.sub(r"\d\.zst", "*.zst", path.name))) - {path}
+        path.write_bytes(other.read_bytes())
+
+
+def longest_stream(record: Path, number: int) -> Path:
+    """An engine that starts late may have written nothing in a round."""
+    return max(record.glob(f"round-{number}.stream-*.zst"), key=lambda path: path.stat().st_size)
 
 
 def resume_changed(path: Path, how: str, formula: Path) -> Answer:
@@ -292,6 +300,7 @@ def resume_changed(path: Path, how: str, formula: Path) -> Answer:
     return answer
 
 
+each_ending = pytest.mark.parametrize("ending", PACKERS)
 each_change = pytest.mark.parametrize("how", ["truncated", "garbled", "another"])
 
 
@@ -299,7 +308,7 @@ each_change = pytest.mark.parametrize("how", ["truncated", "garbled", "another"]
 def test_a_changed_stream_of_round_1(how: str, packed_record: Path, formula: Path,
                                      tmp_path: Path) -> None:
     """The run can be resumed once the stream is as it was."""
-    stream = packed_record / "round-1.stream-2.zst"
+    stream = longest_stream(packed_record, 1)
     text = stream.read_bytes()
     resume_changed(stream, how, formula)
     stream.write_bytes(text)
@@ -319,8 +328,49 @@ def test_changed_streams(name: str, packed_record: Path, formula: Path) -> None:
 def test_a_changed_stream_of_round_3(how: str, packed_record: Path, formula: Path,
                                      tmp_path: Path) -> None:
     """The record ends before this round, and the run can be resumed from there."""
-    answer = resume_changed(packed_record / "round-3.stream-2.zst", how, formula)
+    answer = resume_changed(longest_stream(packed_record, 3), how, formula)
     assert way_on(answer, packed_record, formula) == (2, True), answer.out
     assert saved_rounds(packed_record) == 3
     want_answer(solve(["-j", "2", "--resume", packed_record, formula], tested=SMALL), 20)
     want_proved(packed_record, formula, tmp_path)
+
+
+@pytest.mark.parametrize("body, end", [
+    ("exit 11", "ended with status 11"), ("kill -9 $$", "ended by a signal: Killed"),
+    ("echo zstd: Not enough memory >&2; echo x >&2; exit 1",
+     "ended with status 1: zstd: Not enough memory"),
+    ("head -c 100; exit 127", "ended with status 127")])
+def test_an_unpacker_that_fails(body: str, end: str, packed_record: Path, formula: Path,
+                                tmp_path: Path) -> None:
+    """That isn't a change of the stream. The run ends, and all rounds stay."""
+    rounds = saved_rounds(packed_record) - 1
+    words = ["-j", "2", "--resume", packed_record, formula]
+    answer = solve(words, tested=SMALL, env_more=with_zstd(body, tmp_path, packs=False))
+    want_answer(answer, 0)
+    said = rf"{packed_record}/round-3\.stream-\d\.zst: zstd {end}"
+    assert [line for line in answer.comments if re.fullmatch(said, line)], answer.out
+    assert way_on(answer, packed_record, formula)[0] == rounds, answer.out
+    assert saved_rounds(packed_record) == rounds + 1
+    want_answer(solve(words, tested=SMALL), 20)
+    want_proved(packed_record, formula, tmp_path)
+
+
+@each_ending
+@pytest.mark.parametrize("how", ["truncated", "garbled"])
+def test_what_each_program_says_of_a_changed_stream(ending: str, how: str, formula: Path,
+                                                    kept: Path) -> None:
+    recorded(["-j", "2", formula], kept, 4, UNPACKED)
+    resume_changed(pack(kept / "round-3.stream-2", ending), how, formula)
+    assert saved_rounds(kept) == 3
+
+
+@each_ending
+def test_options_in_the_environment_are_not_for_unpackers(ending: str, formula: Path,
+                                                          kept: Path) -> None:
+    """Nor for the packer."""
+    recorded(["-j", "2", formula], kept, 4, UNPACKED)
+    pack_saved([ending], kept)
+    more = {"XZ_DEFAULTS": "--memlimit-decompress=4KiB", "GZIP": "--none", "BZIP2": "--none",
+            "ZSTD_CLEVEL": "none"}
+    want_answer(solve(["-j", "2", "--resume", kept, formula], tested=SMALL, env_more=more), 20)
+    want_tidy(kept)

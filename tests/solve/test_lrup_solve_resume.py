@@ -17,7 +17,7 @@ from typing import Callable, Mapping, Optional, Sequence
 
 import pytest
 
-from harness import (COUNT, FOUR, PROGRAM, ROOT, Ran, dimacs, generated, named, needs,
+from harness import (COUNT, FOUR, PROGRAM, ROOT, Ran, dimacs, generated, named, needs, pack,
                      random_clauses, run, started, until, written)
 from records import (CHANGES, UNKNOWN, checkpoints, recorded, saved_rounds, want_no_other,
                      way_on, whole, with_digests)
@@ -130,6 +130,24 @@ def test_a_formula_by_a_pipe(tmp_path: Path) -> None:
         answer = solve(["--resume", kept, *words], tested=SMALL, given=given)
         want_answer(answer, 20)
         whole(kept, kept / "formula.cnf", tmp_path)
+
+
+@pytest.mark.parametrize("is_same", [True, False], ids=["the copy", "another copy"])
+def test_a_copy_in_the_record_stays(is_same: bool, tmp_path: Path) -> None:
+    """A resumed run that names another file with the formula keeps the record's copy of it, but no
+    copy that was changed."""
+    formula, kept = generated("pigeons 7", tmp_path), tmp_path / "kept"
+    copy = kept / "formula.cnf"
+    recorded(["-j", "2", pack(Path(shutil.copy(formula, tmp_path / "packed")), "xz")], kept, 1,
+             SMALL)
+    assert copy.read_bytes() == formula.read_bytes()
+    if not is_same:
+        copy.write_text(FOUR)
+    want_answer(solve(["-j", "2", "--resume", kept, formula], tested=SMALL), 20)
+    assert copy.exists() == is_same
+    if is_same:
+        formula.rename(tmp_path / "moved")
+    check_again(kept)
 
 
 @pytest.mark.parametrize("place, folder, formula, cube", [
@@ -507,6 +525,20 @@ def test_other_inputs_and_records(tmp_path: Path) -> None:
     (tmp_path / "d" / "formula.sha256").write_text(digest)
     want_answer(solve([*under, formula], tested=SMALL, cwd=tmp_path), 20, verdict=UNDER)
     refused([*under, formula], "d already has a proof: sh d/command checks it", tmp_path)
+
+
+def test_a_record_of_another_user(tmp_path: Path) -> None:
+    if os.getuid() != 0:
+        pytest.skip("only root can give a file to another user")
+    formula, kept = generated("pigeons 7", tmp_path), tmp_path / "d"
+    recorded(["-j", "2", formula], kept, 1, SMALL)
+    os.chown(kept / "files", 65534, 65534)
+    said = "d/files is another user's: copy the folder, or name another one"
+    for word in ("--proofs", "--resume"):
+        refused([word, "d", formula], said, tmp_path)
+    os.rename(kept, tmp_path / "theirs")
+    shutil.copytree(tmp_path / "theirs", kept)
+    want_answer(solve(["-j", "2", "--resume", kept, formula], tested=SMALL), 20)
 
 
 def test_saved_rounds_stay(tmp_path: Path) -> None:

@@ -370,12 +370,14 @@ def test_ended_by_a_signal(number: signal.Signals, round_number: int, pause: boo
         assert answer.answers == ["s UNKNOWN"]
 
 
-@pytest.mark.parametrize("pause", [False, True])
-def test_filters_wait_while_lrupd_is_stopped(pause: bool, tmp_path: Path) -> None:
-    """Filters wait in the pause until lrupd saves, and in a round because
-    their streams are far ahead."""
+@pytest.mark.parametrize("pause, tested", named([
+    ("in a round, since streams are far ahead", False, {"FIRST_WORDS": 1 << 24, "AHEAD": 1000}),
+    ("in a pause, until lrupd saves", True, {"FIRST_WORDS": 150000})]))
+def test_filters_wait_while_lrupd_is_stopped(pause: bool, tested: Dict[str, int],
+                                             tmp_path: Path) -> None:
+    """With AHEAD and a stopped lrupd a round wouldn't come to its pause."""
     with Running(["-j", "2", generated("pigeons 11", tmp_path)], 1, tmp_path, pause,
-                 FIRST_WORDS=150000 if pause else 1 << 24, AHEAD=1000) as running:
+                 **tested) as running:
         running.stop_lrupd()
         sleep([running.children[name] for name in ("filter 1", "filter 2")])
 

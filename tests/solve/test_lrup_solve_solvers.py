@@ -537,7 +537,7 @@ def test_rounds_end_early(tmp_path: Path) -> None:
 
 @pytest.mark.parametrize("filters", [(3, 3), (3, 1), (1, 3), (2, 5)])
 def test_resumed_by_several_filters(filters: Tuple[int, int], tmp_path: Path) -> None:
-    """A run is ended, saves its last round, and is resumed with another number of filters."""
+    """A run is ended, saves its last round, and is resumed with one filter, whatever was asked."""
     mark, formula, kept = marked(tmp_path), given("random 170 4", tmp_path), tmp_path / "kept"
     words = [*by_filters(filters[0], slow(tmp_path, 60)), "--proofs", kept, formula]
     with started_run(words, {"WINDOW": 7}) as running:
@@ -551,13 +551,14 @@ def test_resumed_by_several_filters(filters: Tuple[int, int], tmp_path: Path) ->
                    tested={"WINDOW": 7, "FIRST_WORDS": 4000})
     want_answer(answer, 20)
     assert "lrupd has read what was saved" in answer.comments, answer.out
+    assert any(re.match(r"solver 1: [\d.]+ s, its filter ", line) for line in answer.comments)
     check_again(kept)
 
 
 @pytest.mark.parametrize("whom", ["filter 1", "filter 2", "filter 3", "copier", "engine 1"])
 def test_killed_with_several_filters(whom: str, tmp_path: Path) -> None:
-    """Another filter takes the whole proof from one that is killed. Without the process that copies
-    the proof, or the solver's, there is no answer."""
+    """If a filter is killed, one filter checks the whole proof. Without the process that copies the
+    proof, or the solver's, there is no answer."""
     mark, formula, kept = marked(tmp_path), given("random 170 4", tmp_path), tmp_path / "kept"
     words = ["-v", *by_filters(3, slow(tmp_path, 3)), "--proofs", kept, formula]
     with started_run(words, {"WINDOW": 7}) as running:
@@ -570,6 +571,8 @@ def test_killed_with_several_filters(whom: str, tmp_path: Path) -> None:
         assert ("c solver 1: a filter ended by a signal: Killed, so one filter checks it, from "
                 "its beginning\n") in out, out
         assert out.endswith("s UNSATISFIABLE\n"), out
+        assert not [*kept.glob("round-*.stream-2")]
+        check_again(kept)
     else:
         what = "the process that copies its proof" if whom == "copier" else "the solver"
         assert f"c solver 1 is lost: {what} ended by a signal: Killed" in out, out
@@ -581,12 +584,14 @@ def test_usual_filters(tmp_path: Path) -> None:
     cores = sorted(os.sched_getaffinity(0))
     formula = given("random 120 5", tmp_path)
     for count in {1, 2, len(cores)}:
-        answer = solve(["-v", *by([CADICAL]), formula],
-                       preexec_fn=lambda: os.sched_setaffinity(0, cores[:count]))
-        want_answer(answer, 20)
-        filters = max(1, min(16, count - 1))
-        its = "filter" if filters == 1 else f"{filters} filters"
-        assert re.search(rf"^c solver 1: [\d.]+ s, its {its} ", answer.out, re.M), answer.out
+        for busy in {0, 1, count}:
+            answer = solve(["-v", *by([CADICAL]), formula],
+                           tested={"LOAD": 100 * len(cores), "RUNNING": 1 + busy},
+                           preexec_fn=lambda: os.sched_setaffinity(0, cores[:count]))
+            want_answer(answer, 20)
+            filters = max(1, min(16, count - busy - 1))
+            its = "filter" if filters == 1 else f"{filters} filters"
+            assert re.search(rf"^c solver 1: [\d.]+ s, its {its} ", answer.out, re.M), answer.out
     answer = solve(["-v", "-j", "1", *by([CADICAL]), formula])
     assert re.search(r"^c solver 2: [\d.]+ s, its filter ", answer.out, re.M), answer.out
 

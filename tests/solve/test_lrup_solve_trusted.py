@@ -164,9 +164,10 @@ def as_expected(*words: str) -> Attack:
 
 
 def without_value(front: Path, work: Path) -> bool:
-    """The same, where the option is the last word."""
-    return ran([front, "--lrupd", PROGRAM, "--engines", program("", work),
-                written(SATISFIABLE, work), "--expect"]).status == 0
+    """The same, where the option is the last word, or comes after one that lacks its value."""
+    words = [front, "--lrupd", PROGRAM, "--engines", program("", work), written(SATISFIABLE, work)]
+    return any(ran([*words, *more], cwd=work).status == 0
+               for more in (["--expect"], ["--proofs", "--expect=unsat"]))
 
 
 def on_standard_input(*words: str) -> Attack:
@@ -190,6 +191,15 @@ def unproved(front: Path, work: Path) -> bool:
     """As lrup-check: nothing is proved, but the status says so."""
     return ran([front, "--check", "--lrupd", PROGRAM, "--engines", program("", work),
                 written(SATISFIABLE, work), os.devnull]).status == 0
+
+
+def begun_again(front: Path, work: Path) -> bool:
+    """A program in lrupd's place says the answer, and is killed. The next one just ends."""
+    says_it = f"[ -e {work}/said ] && exit 0; echo {UNSATISFIABLE}; touch {work}/said; sleep 100"
+    body = (f"check()\nwhile not os.path.exists({str(work / 'said')!r}): time.sleep(0.01)\n"
+            "say('over')\nhears('over')\ncheck()\nhears('lrupd')")
+    return UNSATISFIABLE in answer_of(front, work, body,
+                                      lrupd=in_place_of_lrupd(says_it, work)).answers
 
 
 def unread(front: Path, work: Path) -> bool:
@@ -283,7 +293,7 @@ ATTACKS: Dict[str, Attack] = {
     "no value": without_value, "unproved": unproved, "options": unread, "words": unread,
     "help": helped,
     "end": cut, "signal": killed_by_its_status, "status": says(UNSATISFIABLE, FORGED),
-    "exit": says(UNSATISFIABLE, FORGED),
+    "exit": says(UNSATISFIABLE, FORGED), "emptied": begun_again,
     "last line": lambda front, work: UNSATISFIABLE in answer_of(
         front, work, "stream(1, '')\ncheck()\nhears('lrupd')",
         lrupd=in_place_of_lrupd("echo another program", work)).answers,

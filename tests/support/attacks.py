@@ -189,8 +189,8 @@ class Attack:
         return make(self.numbers)
 
     def truths(self) -> Set[str]:
-        """All answers that are true, but for 's UNKNOWN'."""
-        formula = self.formula
+        """All answers that are true, but for 's UNKNOWN'. lrup-check takes no model."""
+        formula, found = self.formula, set() if self.is_check else {FOUND}
         if self.is_refused or formula.clauses is None or self.assumed is None:
             return set()
         if formula.model is None:
@@ -198,7 +198,7 @@ class Attack:
         if formula.variables <= MOST and model_of(formula.variables, formula.clauses,
                                                   self.assumed) is None:
             return {UNDER}
-        return {FOUND}
+        return found
 
     def literals(self) -> List[int]:
         """Literals to assume. Whether a model makes them true is known, too."""
@@ -535,6 +535,7 @@ class Attack:
             "hears('lrupd')", "hears('lrup-model')", f"model({signs!r})", f"model({signs!r})",
             f"model({signs!r}); hears('lrup-model')", f"say('v {signs}')", "say('model')",
             f"say({line!r})", f"say('c ' + {line!r})", "say('busy')", "say('refused')",
+            "say('over')",
             f"write({data.encode()!r})", "write(os.urandom(5000))", f"forge({line!r})",
             f"children(1, always, tries, forge, {line!r})", f"writes({data.encode()!r}, -1)",
             f"writes({data.encode()!r})", f"children(1, always, writes, {data.encode()!r}, -1)",

@@ -57,8 +57,13 @@ RECORDED = [("four-clause.cnf", ["four-clause.lrup"]), ("pigeonhole.cnf", ["pige
 # What lrup-explain prints if no line is bad; without a folder, it also asks about sizes.
 NONE_BAD = "no line is bad\n  if lrupd found one: missing and retired may depend on time"
 # The first bytes of files that these programs unpack.
-COMPRESSED = {"zcat": b"\x1f\x8b\x08\0", "xzcat": b"\xfd7zXZ\0", "bzcat": b"BZh9",
-              "zstdcat": b"\x28\xb5\x2f\xfd"}
+# How files that begin like this can be unpacked, in messages.
+COMPRESSED = {"zcat, or end its name with .gz": b"\x1f\x8b\x08\0",
+              "xzcat, or end its name with .xz": b"\xfd7zXZ\0",
+              "bzcat, or end its name with .bz2": b"BZh9",
+              "zstdcat, or end its name with .zst": b"\x28\xb5\x2f\xfd",
+              "xzcat": b"]\0\0\x80\0"}
+ZCAT = [*COMPRESSED][0]
 # By the endings of files that they pack.
 PACKERS = {"xz": "xz", "gz": "gzip", "bz2": "bzip2", "zst": "zstd"}
 VERDICTS = {0: "s UNSATISFIABLE", 3: "s UNKNOWN", 8: "s UNSATISFIABLE UNDER ASSUMPTIONS"}

@@ -58,7 +58,8 @@ def only_with(tools: Sequence[str], work: Path) -> Dict[str, str]:
     may call."""
     place = work / "programs"
     place.mkdir()
-    for name in [*tools, "sh", "tr", "cat", "head", "find", "mktemp", "mkfifo", "ln", "rm", "perl"]:
+    for name in [*tools, "sh", "tr", "sed", "cat", "head", "find", "mktemp", "mkfifo", "ln", "rm",
+                 "perl"]:
         found = shutil.which(name)
         if found:
             (place / name).symlink_to(os.path.realpath(found))

@@ -25,7 +25,7 @@
     CALL(access, -1) CALL(calloc, 0) CALL(close, (REAL(close), -1)) CALL(dprintf, -1) \
     CALL(dup2, -1) CALL(execv, -1) CALL(fclose, (REAL(fclose), -1)) CALL(fcntl, -1) \
     CALL(fdopen, 0) CALL(fflush, full()) CALL(fopen, 0) CALL(fork, -1) CALL(fprintf, -1) \
-    CALL(fputs, (REAL(fputs), full())) CALL(fstat, -1) \
+    CALL(fputs, (REAL(fputs), full())) CALL(fstat, -1) CALL(ftruncate, -1) \
     CALL(__isoc99_fscanf, -1) CALL(__isoc23_fscanf, -1) CALL(kill, -1) CALL(lseek, -1) \
     CALL(memfd_create, -1) CALL(open, -1) CALL(pidfd_open, -1) CALL(pipe2, -1) CALL(poll, -1) \
     CALL(prctl, -1) CALL(pread, -1) CALL(printf, (REAL(printf), full())) \

@@ -35,5 +35,5 @@ for program in "$1"/lrup*; do
         echo "    case \$2 in -*) COMPREPLY=(\$(compgen -W \"${options% }\" -- \"\$2\")) ;; esac"
         echo '}'
         echo "complete -o default -F $function $name"
-    } > "$2/$name"
+    } | install -m 644 /dev/stdin "$2/$name"
 done

@@ -5,11 +5,16 @@
 //     a literals                 an addition of DRAT          a id literals hints     of LRAT
 //     d literals                 a deletion of DRAT           d ids                   of LRAT
 //
-// An engine that shares clauses writes DRAT with three more kinds of steps:
+// An engine writes DRAT with more kinds of steps. If its solver hands out hints, clauses have names,
+// plain numbers that are the solver's own. Otherwise none has one.
 //
-//     i engine position literals     it took over the clause that ENGINE gave away at POSITION
-//     r engine position              it won't take over what ENGINE gave away before POSITION
-//     x                              the next addition may be given away; twice: it refutes a cube
+//     o name                            a clause of the formula, in the formula's order
+//     A name literals hints             an addition
+//     D names                           a deletion
+//     i engine position name literals   it took over the clause that ENGINE gave away at POSITION;
+//                                       its name, or 0
+//     r engine position                 it won't take over what ENGINE gave away before POSITION
+//     x                                 the next addition may be given away; twice: it refutes a cube
 #include "errors.h"
 #include "hash.h"
 #include "readers.h"
@@ -17,8 +22,12 @@
 
 enum { MOST_SHIFT = 56, MOST_NUMBERS = 1 << 25 };  // of a step; a longer one is refused
 
-// Some solvers write an identity of LRAT as a literal, others as a plain number.
+// Some solvers write an identity of LRAT as a literal, others as a plain number. CaDiCaL 1.7 writes an
+// addition's own identity as a number, and all others as literals.
 typedef enum { UNDECIDED, PLAIN, DOUBLED } Coding;
+typedef struct {
+    Coding own, others;
+} Codings;
 
 static uint64_t number_of_bytes(Input *input) {
     uint64_t value = 0;
@@ -134,16 +143,17 @@ static void drat_step(Filter *filter, Input *input, int letter, Numbers *list) {
     }
 }
 
-static void sharing_step(Filter *filter, Input *input, int letter, Numbers *list) {
-    uint64_t engine = number(input), position = number(input);
-    if (letter == 'r') {
-        filter->hooks->raise_floor(engine, position);
-        return;
-    }
+static void take_over(Filter *filter, Input *input, Numbers *list) {
+    uint64_t engine = number(input), position = number(input), name = number(input);
     numbers(input, list);
     decode(list, 0, list->length, DOUBLED);
-    filter_take_over(filter, filter->hooks->identity_of_gift(engine, position), list->items,
+    filter_take_over(filter, filter->hooks->identity_of_gift(engine, position), name, list->items,
                      list->length);
+}
+
+static void raise_floor(Filter *filter, Input *input) {
+    uint64_t engine = number(input), position = number(input);
+    filter->hooks->raise_floor(engine, position);
 }
 
 static bool has_odd(const Numbers *list, size_t start) {
@@ -162,8 +172,19 @@ static Coding coding_of(const Filter *filter, const Numbers *list, size_t hints,
     return first > formula && first / 2 <= formula ? PLAIN : DOUBLED;
 }
 
-static void lrat_step(Filter *filter, Input *input, int letter, Numbers *list, Coding *coding) {
-    bool addition = letter == 'a';
+// A hint that is a literal is even, and no hint is above the addition's own identity.
+static Coding coding_of_others(const Numbers *list, size_t hints, bool addition, Coding own) {
+    if (own == DOUBLED) return DOUBLED;
+    if (has_odd(list, hints)) return PLAIN;
+    for (size_t k = hints; addition && k < list->length; k++)
+        if (list->items[k] >= list->items[0]) return DOUBLED;
+    return UNDECIDED;
+}
+
+// Before it is known how others are written, hints are read as literals, since wrong ones only cost a
+// search, and deletions are left out, which is never wrong.
+static void lrat_step(Filter *filter, Input *input, bool addition, Numbers *list,
+                      Codings *codings) {
     size_t hints = 0;
     if (addition) {
         PUSH(list, (int64_t)number(input));
@@ -171,11 +192,13 @@ static void lrat_step(Filter *filter, Input *input, int letter, Numbers *list, C
         hints = list->length;
     }
     numbers(input, list);
-    if (*coding == UNDECIDED) *coding = coding_of(filter, list, hints, addition);
-    if (*coding == UNDECIDED) return;  // leaving out a deletion is never wrong
-    decode(list, 0, addition, *coding);
+    if (codings->own == UNDECIDED) codings->own = coding_of(filter, list, hints, addition);
+    if (codings->others == UNDECIDED)
+        codings->others = coding_of_others(list, hints, addition, codings->own);
+    if (!addition && codings->others == UNDECIDED) return;
+    decode(list, 0, addition, codings->own);
     decode(list, addition, hints, DOUBLED);
-    decode(list, hints, list->length, *coding);
+    decode(list, hints, list->length, codings->others);
     if (addition)
         filter_add(filter, &(Addition){ .named = true,
                                         .name = list->items[0],
@@ -187,22 +210,33 @@ static void lrat_step(Filter *filter, Input *input, int letter, Numbers *list, C
         filter_delete(filter, list->items, list->length);
 }
 
+// Reads a step that only engines write; false if it is another one.
+static bool engines_step(Filter *filter, Input *input, int letter, Numbers *list) {
+    Codings plain = { PLAIN, PLAIN };
+    switch (letter) {
+    case 'x': filter->marked++; return true;
+    case 'i': take_over(filter, input, list); return true;
+    case 'r': raise_floor(filter, input); return true;
+    case 'o': filter_name_next(filter, number(input)); return true;
+    case 'A':
+    case 'D': lrat_step(filter, input, letter == 'A', list, &plain); return true;
+    default: return false;
+    }
+}
+
 void binary_run(Filter *filter, Input *input, Form form) {
     Numbers list = { 0 };
-    Coding coding = UNDECIDED;
+    Codings codings = { UNDECIDED, UNDECIDED };
     for (uint64_t step = 1;; step++) {
         position_set_step(step, input_position(input) + 1);
         int letter = filter_ends(filter) ? -1 : input_byte(input);
         if (letter < 0) break;
         list.length = 0;
-        if (form == SHARING_DRAT && letter == 'x')
-            filter->marked++;
-        else if (form == SHARING_DRAT && (letter == 'i' || letter == 'r'))
-            sharing_step(filter, input, letter, &list);
-        else if (letter != 'a' && letter != 'd')
+        if (form == ENGINE_PROOF && engines_step(filter, input, letter, &list)) continue;
+        if (letter != 'a' && letter != 'd')
             stop("not a step of a binary proof, which begins with a or d");
         else if (form == BINARY_LRAT)
-            lrat_step(filter, input, letter, &list, &coding);
+            lrat_step(filter, input, letter == 'a', &list, &codings);
         else
             drat_step(filter, input, letter, &list);
     }

@@ -3,6 +3,8 @@
 #include "detect.h"
 #include "errors.h"
 
+enum { MANY_LISTS = 100 };
+
 static bool is_space(int byte) { return byte == ' ' || (byte >= '\t' && byte <= '\r'); }
 static bool is_blank(int byte) { return is_space(byte) && byte != '\n'; }
 
@@ -50,9 +52,22 @@ static uint64_t number_ahead(Input *input, size_t *at) {
     return value;
 }
 
+// Where LRAT has a hint, DRAT has the letter of a step, which few hints begin with.
+static Form form_by_lists(Input *input) {
+    for (size_t at = 0, lists = 0; lists < MANY_LISTS; lists++) {
+        int byte = input_ahead(input, at);
+        if (byte == -1) return BINARY_DRAT;
+        if (byte != 'a' && byte != 'd') return BINARY_LRAT;
+        while ((byte = input_ahead(input, ++at)) != 0)
+            if (byte == -1) return BINARY_DRAT;
+        at++;
+    }
+    return BINARY_DRAT;
+}
+
 // DRAT's first addition begins with a literal of the formula, and LRAT's with an identity above the
-// formula's, plain or doubled. Some numbers can be either. If an earlier deletion has a number that
-// isn't a literal, the proof is LRAT.
+// formula's, plain or doubled. Some numbers can be either; then the lists decide. If an earlier
+// deletion has a number that isn't a literal, the proof is LRAT.
 static Form binary_form(Input *input, const Formula *formula) {
     uint64_t last_literal = 2 * (uint64_t)formula->variables + 1, found;
     for (size_t at = 0;;) {
@@ -60,7 +75,7 @@ static Form binary_form(Input *input, const Formula *formula) {
         if (letter == 'a') {
             found = number_ahead(input, &at);
             if (found <= formula->clauses) return BINARY_DRAT;
-            return found > last_literal ? BINARY_LRAT : UNKNOWN_FORM;
+            return found > last_literal ? BINARY_LRAT : form_by_lists(input);
         }
         if (letter != 'd') return UNKNOWN_FORM;
         while ((found = number_ahead(input, &at)) != 0)

@@ -67,6 +67,18 @@ void filter_name_formula(Filter *filter) {
     filter->frat = false;
 }
 
+// Names the next clause of the formula. The first call forgets all names that its order gave.
+void filter_name_next(Filter *filter, uint64_t name) {
+    if (!filter->has_own_names) {
+        clauses_forget_names(&filter->clauses);
+        filter->unnamed = clauses_after(&filter->clauses, 0);
+        filter->has_own_names = filter->renumbered = true;
+    }
+    if (filter->unnamed == 0) stop("more original clauses than the formula has");
+    clauses_name(&filter->clauses, name, filter->unnamed);
+    filter->unnamed = clauses_after(&filter->clauses, filter->unnamed);
+}
+
 // Reads the literals of a step without repetitions, and marks them. False if the formula lacks one
 // of the variables.
 static bool mark_literals(Filter *filter, const int64_t *numbers, size_t length, bool *tautology) {
@@ -465,12 +477,14 @@ void filter_meet(Filter *filter) {
     grow(numbers, 0);
 }
 
-// Like an import, but the proof has no name for the clause.
-void filter_take_over(Filter *filter, uint64_t identity, const int64_t *literals, size_t length) {
+// Like an import, but the name isn't the identity.
+void filter_take_over(Filter *filter, uint64_t identity, uint64_t name, const int64_t *literals,
+                      size_t length) {
     bool tautology = mark_or_stop(filter, literals, length);
     if (length > LITERALS_OF_A_LINE) filter_stop_too_long(filter);
     ClauseRef ref = clauses_add(&filter->clauses, identity, filter->literals.items,
                                 filter->literals.length, tautology);
+    if (name != 0) clauses_name(&filter->clauses, name, ref);
     make_known(filter, ref, filter->hash);
     filter_unmark(filter);
     write_import(identity, literals, length);
@@ -486,6 +500,7 @@ static void give_back(Filter *filter) {
     size_t least = DEAD_WORDS + (size_t)filter->formula.variables + clauses->near.length / 4;
     if (clauses->dead < least || 2 * clauses->dead < clauses->used) return;
     uint64_t *old = clauses_begin_move(clauses);
+    filter->unnamed = clauses_moved(old, filter->unnamed);
     propagation_move(&filter->propagation, old);
     clauses_end_move(clauses, old);
 }

@@ -49,8 +49,9 @@ struct Filter {
     uint64_t meeting;        // the formula's clause that ends a round in windows; 0: none
     Literals met;            // its literals
     uint64_t originals;      // clauses of the formula that the proof is of
-    uint64_t taken;          // no round deletes the stream's own clauses up to this identity
     bool named;              // the additions have names
+    bool has_own_names;      // the solver names the formula's clauses, too
+    ClauseRef unnamed;       // of these, the first one that it hasn't named yet; 0: none
     bool is_too_long;        // the filter stops since a line would be too long
     uint64_t last;           // the identity of the last line written
     uint64_t spared;         // no round deletes the formula's first `spared` clauses
@@ -110,7 +111,10 @@ void filter_name_formula(Filter *filter);
 void filter_add(Filter *filter, const Addition *addition);
 void filter_add_marked(Filter *filter, bool tautology);  // the marked literals, without hints
 void filter_import(Filter *filter, int64_t identity, const int64_t *literals, size_t length);
-void filter_take_over(Filter *filter, uint64_t identity, const int64_t *literals, size_t length);
+// name: the solver's, or 0
+void filter_take_over(Filter *filter, uint64_t identity, uint64_t name, const int64_t *literals,
+                      size_t length);
+void filter_name_next(Filter *filter, uint64_t name);
 void filter_delete(Filter *filter, const int64_t *names, size_t length);
 void filter_delete_literals(Filter *filter, const int64_t *literals, size_t length);
 void filter_delete_marked(Filter *filter);  // a clause with the marked literals

@@ -2,7 +2,7 @@
 #ifndef FORM_H
 #define FORM_H
 
-// Engines that share clauses within lrup-solve write the last form; no option names it.
-typedef enum { UNKNOWN_FORM, TEXT, LRAT, DRAT, FRAT, BINARY_LRAT, BINARY_DRAT, SHARING_DRAT } Form;
+// Engines of lrup-solve write the last form; no option names it.
+typedef enum { UNKNOWN_FORM, TEXT, LRAT, DRAT, FRAT, BINARY_LRAT, BINARY_DRAT, ENGINE_PROOF } Form;
 
 #endif

@@ -26,7 +26,7 @@ static void mark(const Filter *filter, unsigned char *marks, uint64_t identity) 
 static bool may_delete(const Filter *filter, uint64_t identity) {
     uint64_t place = (identity - filter->formula.clauses - 1) / filter->streams;
     bool is_of_lemma = place % IDENTITIES_OF_AN_ADDITION != IDENTITIES_OF_AN_ADDITION - 1;
-    return identity > filter->taken && !(filter_has_windows(filter) && is_of_lemma);
+    return !(filter_has_windows(filter) && is_of_lemma);
 }
 
 // Deletes the clauses of the formula and of the stream, except those that are spared, those in
@@ -81,7 +81,7 @@ void round_begin(Filter *filter, const Checkpoint *checkpoint, uint64_t stream, 
     filter->formula.clauses = checkpoint->old.length;
     filter->stream = stream;
     filter->streams = streams;
-    filter->last = filter->taken = 0;
+    filter->last = 0;
     windows_begin_round(&filter->windows);
     filter->keeps_identities = false;
     filter->renumbered = true;

@@ -103,6 +103,14 @@ void clauses_forget_name(Clauses *clauses, uint64_t name) {
         forget_far(clauses, name);
 }
 
+void clauses_forget_names(Clauses *clauses) {
+    clauses->near.items = grow(clauses->near.items, 0);
+    clauses->near.length = clauses->near.capacity = 0;
+    clauses->far = grow(clauses->far, 0);
+    clauses->far_length = clauses->far_capacity = 0;
+    clauses->names = 0;
+}
+
 // Sets of literals.
 
 static size_t set_place(const Clauses *clauses, uint64_t hash) {

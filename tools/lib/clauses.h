@@ -57,7 +57,8 @@ static inline ClauseRef clauses_named(const Clauses *clauses, uint64_t name) {
 }
 void clauses_name(Clauses *clauses, uint64_t name, ClauseRef ref);
 void clauses_forget_name(Clauses *clauses, uint64_t name);
-void clauses_keep_sets(Clauses *clauses);  // of the clauses present, and of later ones
+void clauses_forget_names(Clauses *clauses);  // all of them
+void clauses_keep_sets(Clauses *clauses);     // of the clauses present, and of later ones
 uint64_t clauses_hash(const Clauses *clauses, ClauseRef ref);  // of its literals
 void clauses_keep_set(Clauses *clauses, ClauseRef ref, uint64_t hash);
 void clauses_forget_sets(Clauses *clauses);

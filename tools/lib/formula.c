@@ -44,10 +44,11 @@ const char *unpacked_by(int first, int second) {
     static const struct {
         unsigned char first, second;
         const char *program;
-    } known[] = { { 0x1f, 0x8b, "zcat" },
-                  { 0xfd, '7', "xzcat" },
-                  { 'B', 'Z', "bzcat" },
-                  { '(', 0xb5, "zstdcat" } };
+    } known[] = { { 0x1f, 0x8b, "zcat, or end its name with .gz" },
+                  { 0xfd, '7', "xzcat, or end its name with .xz" },
+                  { 'B', 'Z', "bzcat, or end its name with .bz2" },
+                  { '(', 0xb5, "zstdcat, or end its name with .zst" },
+                  { ']', 0, "xzcat" } };  // lzma
     for (size_t k = 0; k < sizeof known / sizeof *known; k++)
         if (first == known[k].first && second == known[k].second) return known[k].program;
     return NULL;
@@ -55,7 +56,10 @@ const char *unpacked_by(int first, int second) {
 
 static _Noreturn void refuse_header(Reader *reader) {
     const unsigned char *first = (const unsigned char *)reader->word;
-    const char *program = reader->line == 1 ? unpacked_by(first[0], first[0] ? first[1] : 0) : NULL;
+    int second = first[0] == 0 || first[1] == '?' ? 0 : first[1];
+    const char *program = reader->line == 1 ? unpacked_by(first[0], second) : NULL;
+    if (reader->line == 1 && strncmp(reader->word, "\xef\xbb\xbf", 3) == 0)
+        refuse(reader, "a byte-order mark comes first: tail -c +4 removes it");
     if (program) {
         char cause[LONGEST_TEXT];
         snprintf(cause, sizeof cause, "compressed: unpack it with %s", program);
@@ -113,14 +117,18 @@ bool number_read(const char *word, int *value) {
     return word > first && *word == 0 && (*first != '0' || (word == first + 1 && !negative));
 }
 
+static const char *shown_word(Reader *reader) {
+    for (char *at = reader->word; *at != 0; at++)
+        if (*at < ' ' || *at > '~') *at = '?';
+    return reader->word;
+}
+
 static int literal_read(Reader *reader) {
     int value;
     read_word(reader);
     if (number_read(reader->word, &value)) return value;
-    for (char *at = reader->word; *at != 0; at++)
-        if (*at < ' ' || *at > '~') *at = '?';
     bool is_of_satlib = strcmp(reader->word, "%") == 0;
-    refuse(reader, "not a number: %s%s%s", reader->word, more_of_word(reader),
+    refuse(reader, "not a number: %s%s%s", shown_word(reader), more_of_word(reader),
            is_of_satlib ? ": SATLIB's files end with it, and sed '/^%/,$d' removes it" : "");
 }
 
@@ -164,7 +172,10 @@ static void header(Reader *reader, Formula *formula, int *clauses) {
     for (size_t k = 0; k < 2; k++) {
         blank(reader);
         read_word(reader);
-        if (strcmp(reader->word, words[k]) != 0) refuse_header(reader);
+        if (strcmp(reader->word, words[k]) == 0) continue;
+        if (k == 0 || reader->word[0] == 0) refuse_header(reader);
+        refuse(reader, "the header begins with 'p %s%s', not 'p cnf'", shown_word(reader),
+               more_of_word(reader));
     }
     formula->variables = count(reader, "variables");
     *clauses = count(reader, "clauses");

@@ -27,7 +27,7 @@ void formula_read(Formula *formula, const char *path);
 void formula_free(Formula *formula);  // only the counts are left
 // sorted, each once
 void formula_clause(const Formula *formula, size_t clause, Literals *literals);
-// the program that unpacks a file that begins with these bytes, or NULL
+// how a file that begins with these bytes can be unpacked, in words, or NULL
 const char *unpacked_by(int first, int second);
 // in lrupd's spelling; a number that is too large gets a magnitude above MOST_VARIABLES
 bool number_read(const char *word, int *value);

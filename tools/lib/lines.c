@@ -15,6 +15,7 @@
 
 #include "errors.h"
 #include "packed.h"
+#include "packers.h"
 #include "line_limits.h"
 #include "words.h"
 #include "lines.h"

@@ -37,7 +37,9 @@ const char *options_read(const Option *options, int count, char **words, Texts *
     opterr = 0;
     for (int at = optind; (code = getopt_long(count, words, letters, list, NULL)) != -1;
          at = optind) {
-        if (code == ':') refusing("no value after", words[at]);
+        bool is_next = optarg && optarg == words[at + 1];
+        if (code == ':' || (is_next && strncmp(optarg, "--", 2) == 0))
+            refusing("no value after", words[at]);
         if (code == 1) PUSH(files, optarg);
         if (code == ':' || code == 1) continue;
         const Option *option = option_of(options, code, words[at]);

@@ -24,7 +24,8 @@ typedef struct {
 } Option;
 
 // Puts the words that aren't options, and those after --, into `files`. Returns the name of an
-// option that ended the reading, or NULL. `refusing` must not return.
+// option that ended the reading, or NULL. `refusing` must not return. A value that begins with --
+// has to be in the option's word, after =, so that no option is taken for a value.
 const char *options_read(const Option *options, int count, char **words, Texts *files,
                          bool last_counts, void (*refusing)(const char *cause, const char *word));
 

@@ -11,6 +11,7 @@
 
 #include "errors.h"
 #include "packed.h"
+#include "packers.h"
 
 enum { NOT_FOUND = 127, LONGEST_CAUSE_OF_PACKER = 64 };
 
@@ -30,6 +31,7 @@ static _Noreturn void unpack(const char *program, int packed, int out) {
     sigemptyset(&none);
     sigprocmask(SIG_SETMASK, &none, NULL);
     signal(SIGPIPE, SIG_DFL);
+    packers_forget_options();
     if (dup2(packed, STDIN_FILENO) == STDIN_FILENO && dup2(out, STDOUT_FILENO) == STDOUT_FILENO)
         execlp(program, program, "-dcq", (char *)NULL);
     _exit(errno == ENOENT ? NOT_FOUND : 126);

@@ -1,5 +1,4 @@
-// Unverified: the file extensions of compressed files, and the programs that unpack them. For C and
-// C++; tools/lrup-recheck has the same list in shell.
+// Unverified: reads compressed files. For C and C++.
 #ifndef PACKED_H
 #define PACKED_H
 
@@ -10,14 +9,6 @@
 #ifdef __cplusplus
 extern "C" {
 #endif
-
-enum { PACKED_FORMS = 4, LONGEST_ENDING = 8 };
-
-static const struct {
-    const char *ending, *program;
-} PACKED[PACKED_FORMS] = {
-    { ".xz", "xz" }, { ".gz", "gzip" }, { ".bz2", "bzip2" }, { ".zst", "zstd" }
-};
 
 // A file that is read once, and is unpacked meanwhile if its name says that it is compressed.
 typedef struct {

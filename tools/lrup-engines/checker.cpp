@@ -161,6 +161,7 @@ void Front::read_on(Checker *checker) {
         std::string line = unread.substr(0, end), name = line.substr(0, line.find(' ')),
                     rest = line.substr(line.find(' ') + 1);
         if (name == "lrupd" && checker) checker->take_end(rest);
+        if (name == "over" && checker) checker->forget();
         if (name == "signal") stopped = rest;
     }
 }
@@ -336,6 +337,13 @@ void Checker::end_stream(size_t number) {
     if (!keeps_digests) return;
     digests.push_back(stream.digest.end() + "  " + stream.name);
     stream.has_digest = true;
+}
+
+void Checker::forget() {
+    for (Stream &stream : streams) close_file(stream.pipe);
+    close_file(sizes);
+    close_file(written);
+    *this = Checker();
 }
 
 uint64_t Checker::read_of(size_t number) const {

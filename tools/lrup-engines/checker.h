@@ -41,6 +41,7 @@ class Checker {
     void go_on_in(size_t stream, int file) { streams[stream].file = file; }
     void end_stream(size_t stream);
     bool has_digest(size_t stream) const { return streams[stream].has_digest; }
+    void forget();  // an lrupd that was ended, since it isn't needed any more
     uint64_t fed(size_t stream) const { return streams[stream].fed; }
     uint64_t read_of(size_t stream) const;    // bytes that lrupd has read
     void read_on();                           // reads its output

@@ -4,6 +4,7 @@
 #include <cstdarg>
 #include <cstdio>
 
+#include <poll.h>
 #include <sys/ioctl.h>
 #include <unistd.h>
 
@@ -15,6 +16,12 @@ namespace {
 const size_t SIGNS = 4000;   // in a line for the front
 const double SHOWING = 0.2;  // seconds between updates of the progress and of lrupd's lines
 const double REPORTING = 1;  // seconds between lines of JSON
+
+// Writes a text that a pipe takes whole to standard error. It is left out if that would block.
+void show_on_error(const std::string &text) {
+    pollfd error = { STDERR_FILENO, POLLOUT, 0 };
+    if (poll(&error, 1, 0) > 0) write_all(STDERR_FILENO, text.data(), text.size());
+}
 
 size_t terminal_columns() {
     winsize size = {};
@@ -97,8 +104,7 @@ void Display::show() {
 // The front prints comments, and doesn't say when it has. So the progress isn't shown again before
 // the front has read them, and some time has passed: a comment begins in the first column.
 void Display::show_progress(const std::string &line) const {
-    if (!front.has_unread())
-        fprintf(stderr, "\r%s\33[K", line.substr(0, terminal_columns() - 1).c_str());
+    if (!front.has_unread()) show_on_error("\r" + line.substr(0, terminal_columns() - 1) + "\33[K");
 }
 
 void Display::show_lines() {
@@ -109,7 +115,7 @@ void Display::show_lines() {
 }
 
 void Display::hide() const {
-    if (shows_progress) fputs("\r\33[K", stderr);
+    if (shows_progress) show_on_error("\r\33[K");
 }
 
 void Display::tell(const std::string &line) const {
@@ -154,14 +160,14 @@ void Display::report(const std::string &answer) {
     std::string free = options.proofs ? std::to_string(free_bytes()) : "null";
     reported = now();
     most_checked = std::max(most_checked, checked());
-    fprintf(stderr,
-            "{\"seconds\": %.1f, \"clauses_checked\": %llu, \"round\": %llu, "
-            "\"bytes_behind\": %llu, \"bytes_free\": %s, \"cubes_refuted\": %llu, "
-            "\"cubes\": %zu, \"answer\": %s}\n",
-            reported - started, (unsigned long long)most_checked, (unsigned long long)rounds.number,
-            (unsigned long long)teams.all(&EngineStatus::behind), free.c_str(),
-            (unsigned long long)(teams.dealer.refuted + teams.dealer.refuted_elsewhere),
-            inputs.cubes.size(), answer.empty() ? "null" : ("\"" + answer + "\"").c_str());
+    show_on_error(format(
+        "{\"seconds\": %.1f, \"clauses_checked\": %llu, \"round\": %llu, "
+        "\"bytes_behind\": %llu, \"bytes_free\": %s, \"cubes_refuted\": %llu, "
+        "\"cubes\": %zu, \"answer\": %s}\n",
+        reported - started, (unsigned long long)most_checked, (unsigned long long)rounds.number,
+        (unsigned long long)teams.all(&EngineStatus::behind), free.c_str(),
+        (unsigned long long)(teams.dealer.refuted + teams.dealer.refuted_elsewhere),
+        inputs.cubes.size(), answer.empty() ? "null" : ("\"" + answer + "\"").c_str()));
 }
 
 void Display::report_end(const std::string &answer) {
@@ -247,10 +253,10 @@ void Display::tell_details() const {
         tell(format("the verdict came %.2f s after an engine's answer", now() - teams.answered));
 }
 
-// With -v these lines were printed when the engines were lost.
+bool Display::tells_at_once() const { return inputs.options.verbose || inputs.options.check; }
+
 void Display::tell_lost() const {
-    for (size_t k = 0;
-         k < teams.size() && !inputs.options.verbose && inputs.contradiction().empty(); k++)
+    for (size_t k = 0; k < teams.size() && !tells_at_once() && inputs.contradiction().empty(); k++)
         if (teams[k].told) tell(teams.why_lost(k));
 }
 

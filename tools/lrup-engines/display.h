@@ -28,13 +28,17 @@ class Display {
     void tell(const std::string &line) const;       // a comment
     void tell_more(const std::string &line) const;  // with -v only
     void tell_details() const;
-    void tell_lost() const;         // why each lost engine was lost
+    // whether a message says at once that an engine, or a proof, is lost: with -v, and in lrup-check,
+    // where other proofs may take long; otherwise `tell_lost` does so at the end
+    bool tells_at_once() const;
+    void tell_lost() const;
     void tell_other_hints() const;  // how many lines of each proof had wrong ones
     void tell_causes(const std::string &cause) const;  // why there is no answer
     void tell_record() const;                          // the record's size
     void tell_summary() const;
     void report_end(const std::string &answer);  // the last line of JSON
     void hide() const;                           // removes the progress line
+    void forget() { most_checked = 0; }          // what an lrupd has checked that counts no more
 
   private:
     const Inputs &inputs;

@@ -1,5 +1,5 @@
-// Unverified, like the whole solver. In an engine's process, except `engine_version`: CaDiCaL, what
-// it gives away, and what it takes over.
+// Unverified, like the whole solver. In an engine's process: CaDiCaL, what it gives away, and what it
+// takes over.
 //
 // Sharing depends on these rules; without one of them, proofs break silently:
 // - A clause over a variable that this engine eliminated or substituted isn't taken over: CaDiCaL
@@ -27,29 +27,56 @@
 
 #include "hash.h"
 #include "cubes.h"
+#include "tracing.h"
 
 namespace {
 
 const double SLICE = 0.5;  // seconds after which an engine takes over what others gave away
 const int FIRST_CONFLICTS = 1000, LEAST_CONFLICTS = 200, MOST_CONFLICTS = 1000000;
 const int MOST_TAKEN = 5000;  // clauses of more than two literals, in one slice
-const int PROOF_BUFFER = 1 << 15;
 const size_t MOST_KNOWN = 1 << 18;
 
 enum { OUT_OF_MEMORY = 3, NO_PROOF = 4 };  // the process's statuses
 
-class Worker : CaDiCaL::Learner, CaDiCaL::WitnessIterator {
+// Marks the variables that CaDiCaL has eliminated or substituted.
+class GoneVariables : CaDiCaL::WitnessIterator {
+  public:
+    std::vector<unsigned char> marks;  // by variable, from 1
+
+    void update(const CaDiCaL::Solver &solver) {
+        if (solver.active() == active) return;
+        active = solver.active();
+        std::fill(marks.begin(), marks.end(), 0);
+        solver.traverse_witnesses_forward(*this);
+    }
+
+  private:
+    int active = -1;
+
+    // One of the two is CaDiCaL's, depending on its version. Witnesses of one literal are units at
+    // the root; their variables aren't gone.
+    bool witness(const std::vector<int> &satisfied, const std::vector<int> &cube) {
+        if (satisfied.size() == 1 && cube.size() == 1) return true;
+        for (int literal : cube) marks[size_t(std::abs(literal))] = 1;
+        return true;
+    }
+    bool witness(const std::vector<int> &satisfied, const std::vector<int> &cube, uint64_t) {
+        return witness(satisfied, cube);
+    }
+};
+
+class Worker : CaDiCaL::Learner {
   public:
     explicit Worker(const Engine &given)
         : engine(given), engine_status(given.shared->engine_statuses[given.number - 1]),
-          cubes(given, solver) {}
+          tracing(solver, steps), cubes(given, solver) {}
 
     int run() {
         open();
         int status = solve();
         if (status == 10) write_model();
         if (status == 20) write_end();
-        if (fflush(proof) != 0 || ferror(proof)) return NO_PROOF;
+        if (!steps.flush()) return NO_PROOF;
         STORE(engine_status.answer, status);
         events_advance(&engine.shared->events);
         return status;
@@ -58,13 +85,13 @@ class Worker : CaDiCaL::Learner, CaDiCaL::WitnessIterator {
   private:
     const Engine &engine;
     EngineStatus &engine_status;
+    Steps steps;
     CaDiCaL::Solver solver;
+    Tracing<CaDiCaL::Tracer> tracing;
     Cubes cubes;
-    int learned = 0;  // literals of the learned clause that aren't the cube's
-    FILE *proof = nullptr;
-    std::vector<uint64_t> read;       // by engine: how far its outbox is read
-    std::vector<unsigned char> gone;  // by variable, from 1: eliminated or substituted here
-    int active = -1;
+    int learned = 0;             // literals of the learned clause that aren't the cube's
+    std::vector<uint64_t> read;  // by engine: how far its outbox is read
+    GoneVariables gone;
     // hashes of clauses given away or taken over recently
     std::unordered_set<uint64_t> known, known_before;
     std::vector<int> clause;
@@ -87,23 +114,9 @@ class Worker : CaDiCaL::Learner, CaDiCaL::WitnessIterator {
     void learn(int literal) override {
         const std::vector<int> &cube = cubes.cube();
         if (literal == 0 && learned <= engine.options->share_size && !LOAD(engine.shared->crowded))
-            putc_unlocked('x', proof);
+            steps.put('x');
         if (literal != 0 && cubes.counts_variables()) cubes.count_literal(literal);
         learned -= literal != 0 && std::find(cube.begin(), cube.end(), -literal) != cube.end();
-    }
-
-    // Witnesses of one literal are units at the root; their variables aren't gone.
-    bool witness(const std::vector<int> &satisfied, const std::vector<int> &cube) override {
-        if (satisfied.size() == 1 && cube.size() == 1) return true;
-        for (int literal : cube) gone[size_t(std::abs(literal))] = 1;
-        return true;
-    }
-
-    void update_gone() {
-        if (solver.active() == active) return;
-        active = solver.active();
-        std::fill(gone.begin(), gone.end(), 0);
-        solver.traverse_witnesses_forward(*this);
     }
 
     // The first two engines each stay in one of the two modes between which CaDiCaL alternates;
@@ -146,13 +159,11 @@ class Worker : CaDiCaL::Learner, CaDiCaL::WitnessIterator {
     // without a line.
     void open() {
         configure();
-        proof = fdopen(engine.proof, "w");
-        if (!proof) throw std::bad_alloc();
-        setvbuf(proof, nullptr, _IOFBF, PROOF_BUFFER);
-        solver.trace_proof(proof, "the proof");
+        steps.open(engine.proof);
+        tracing.begin();
         solver.connect_learner(this);
         read.assign(size_t(engine.options->engines), 0);
-        gone.assign(size_t(engine.formula->variables) + 1, 0);
+        gone.marks.assign(size_t(engine.formula->variables) + 1, 0);
         solver.reserve(engine.formula->variables);
         const Formula &formula = *engine.formula;
         for (size_t k = 0; k < formula.clauses; k++) {
@@ -183,11 +194,21 @@ class Worker : CaDiCaL::Learner, CaDiCaL::WitnessIterator {
         collect_failed();
         for (int literal : cubes.cube())
             if (solver.failed(literal)) clause.push_back(-literal);
-        for (char letter : { 'x', 'x', 'a' }) putc_unlocked(letter, proof);
-        put_clause();
-        add_clause();
+        tracing.conclude();
+        tracing.add(clause, [this](uint64_t name) {
+            steps.put('x');
+            steps.put('x');
+            put_conclusion(name);
+        });
         cubes.tell_refuted();
         return true;
+    }
+
+    // Writes the clause that says that the assumptions fail.
+    void put_conclusion(uint64_t name) {
+        if (name != 0) return steps.put_addition(name, clause, tracing.reasons);
+        steps.put('a');
+        steps.put_clause(clause);
     }
 
     static double within_limits(double conflicts) {
@@ -211,8 +232,8 @@ class Worker : CaDiCaL::Learner, CaDiCaL::WitnessIterator {
                 conflicts = within_limits(conflicts * std::min(2.0, std::max(0.5, factor)));
             STORE(engine_status.slices, engine_status.slices + 1);
             take_over();
-            cubes.end_slice(gone);
-            if (fflush(proof) != 0) return 0;
+            cubes.end_slice(gone.marks);
+            if (!steps.flush()) return 0;
         }
     }
 
@@ -225,26 +246,16 @@ class Worker : CaDiCaL::Learner, CaDiCaL::WitnessIterator {
         return known_before.count(sum) == 0 && known.insert(sum).second;
     }
 
-    void put_number(uint64_t number) {
-        for (; number > 127; number >>= 7) putc_unlocked(int(number & 127) | 128, proof);
-        putc_unlocked(int(number), proof);
+    void put_step(char letter, int other, uint64_t position) {
+        steps.put(letter);
+        steps.put_number(uint64_t(other) + 1);
+        steps.put_number(position);
     }
 
-    // Writes the literals, and the end of the step.
-    void put_clause() {
-        for (int literal : clause) put_number(2 * uint64_t(std::abs(literal)) + (literal < 0));
-        put_number(0);
-    }
-
-    void put_step(int letter, int other, uint64_t position) {
-        putc_unlocked(letter, proof);
-        put_number(uint64_t(other) + 1);
-        put_number(position);
-    }
-
-    void add_clause() {
-        for (int literal : clause) solver.add(literal);
-        solver.add(0);
+    void put_import(int other, uint64_t position, uint64_t name) {
+        put_step('i', other, position);
+        steps.put_number(name);
+        steps.put_clause(clause);
     }
 
     // Takes over a clause that another engine gave away at that position. The position names the
@@ -254,7 +265,7 @@ class Worker : CaDiCaL::Learner, CaDiCaL::WitnessIterator {
         clause.clear();
         for (size_t k = 0; k < length; k++) {
             int literal = as_written(literals[k]);
-            if (gone[size_t(std::abs(literal))] && !test_hooks.without_guard) {
+            if (gone.marks[size_t(std::abs(literal))] && !test_hooks.without_guard) {
                 STORE(engine_status.refused, engine_status.refused + 1);
                 return;
             }
@@ -265,17 +276,19 @@ class Worker : CaDiCaL::Learner, CaDiCaL::WitnessIterator {
             clause.push_back(literal);
         }
         STORE(engine_status.taken, engine_status.taken + 1);
-        if (test_hooks.without_order) add_clause();
-        put_step('i', other, position);
-        put_clause();
-        if (!test_hooks.without_order) add_clause();
+        uint64_t known_as = 0;
+        tracing.add(clause, [&](uint64_t name) {
+            known_as = name;
+            if (!test_hooks.without_order) put_import(other, position, name);
+        });
+        if (test_hooks.without_order) put_import(other, position, known_as);
     }
 
     // Takes all units, binary clauses and clauses that refute cubes, and at most MOST_TAKEN others;
     // it never takes the rest. Then the proof says that none of the clauses so far will be asked
     // for again.
     void take_over() {
-        update_gone();
+        gone.update(solver);
         int left = MOST_TAKEN;
         for (int other = 0; other < engine.options->engines; other++) {
             uint64_t end = LOAD(engine.shared->engine_statuses[other].outbox_used),
@@ -311,14 +324,14 @@ class Worker : CaDiCaL::Learner, CaDiCaL::WitnessIterator {
     // formula has the clause, or if there are assumptions.
     void write_end() {
         collect_failed();
-        putc_unlocked('a', proof);
-        put_clause();
+        tracing.conclude();
+        put_conclusion(tracing.conclusion);
     }
 };
 
 }  // namespace
 
-const char *engine_version() { return CaDiCaL::Solver::version(); }
+const bool engines_have_hints = Tracing<CaDiCaL::Tracer>::has_hints;
 
 void engine_process(const Engine &engine) {
     int status = OUT_OF_MEMORY;

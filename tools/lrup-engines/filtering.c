@@ -33,7 +33,7 @@ static bool in_memory;  // the stream is in memory, although there is a record
 // Filters that share the proof. What happens at its first step counts: if one of them refutes the
 // formula or stops there, the others go on to that step.
 static bool refuted_by_another;
-static bool needs_one;            // another filter has to take the whole proof
+static bool needs_one;            // one filter has to check the whole proof
 static uint64_t own_window;       // in this round, the first one that isn't whole
 static uint64_t seen_window;      // of the last addition
 static uint64_t booked;           // the additions that the round has room for
@@ -460,8 +460,8 @@ static void raise_floor(uint64_t engine, uint64_t position) {
     STORE(engine_status->floors[engine_of(engine)], position);
 }
 
-// The filter is already open, since a round may end before the first bytes arrive. If a binary
-// proof could be either DRAT or LRAT, it is taken for DRAT.
+// The filter is already open, since a round may end before the first bytes arrive. The reader of DRAT
+// says what is wrong with other bytes.
 static Form form_found(const Formula *formula) {
     Form form = form_of(&input, formula);
     if (form != FRAT) filter_name_formula(&filter);
@@ -517,11 +517,9 @@ void filter_process(const Filtering *filtering, const void *formula) {
     filter.streams = LOAD(own->shared->streams);
     filter.windows =
         (Windows){ .filters = own->filters, .number = own->number, .size = own->window };
-    filter.last = filter.taken = own->taken;
     filter.spared = own->spared;
     literals_taken = zeroed(own->filters, sizeof *literals_taken);
     begin_windows();
-    lseek(own->stream, (off_t)engine_status->bytes, SEEK_SET);
     filter.keeps_clauses = !test_hooks.without_keeping;
     filter.hooks = &hooks;
     assumed = zeroed(2 * (size_t)filter.formula.variables, 1);

@@ -23,14 +23,16 @@ int place = -1, folder_file = -1;  // the parent folder; the folder itself
 Pipe life;                         // closed when this process ends
 pid_t cleaner = 0;
 
-// In the first process or the cleaner's, like the next three. Removes everything in the folder,
-// using only descriptors, since a name may lead to another file by now. Closes `file`.
-void remove_within(int file) {
+// In the first process or the cleaner's, like the next three. Removes everything in the folder, or
+// only files, using only descriptors, since a name may lead to another file by now. Closes `file`.
+void remove_within(int file, bool removes_folders) {
     DIR *list = file < 0 ? nullptr : fdopendir(file);
     while (const dirent *entry = list ? readdir(list) : nullptr) {
         const std::string name = entry->d_name;
         if (name == "." || name == ".." || unlinkat(file, name.c_str(), 0) == 0) continue;
-        remove_within(openat(file, name.c_str(), O_RDONLY | O_DIRECTORY | O_NOFOLLOW | O_CLOEXEC));
+        if (!removes_folders) continue;
+        remove_within(openat(file, name.c_str(), O_RDONLY | O_DIRECTORY | O_NOFOLLOW | O_CLOEXEC),
+                      true);
         unlinkat(file, name.c_str(), AT_REMOVEDIR);
     }
     if (list) closedir(list);
@@ -51,7 +53,7 @@ int open_folder() {
 // Tries again if lrupd, which may still run, has put a file there meanwhile.
 void remove_folder() {
     for (int tries = 0; tries < 100; tries++) {
-        remove_within(openat(folder_file, ".", O_RDONLY | O_DIRECTORY | O_CLOEXEC));
+        remove_within(openat(folder_file, ".", O_RDONLY | O_DIRECTORY | O_CLOEXEC), true);
         if (!is_named(folder_file)) return;
         if (unlinkat(place, last_name.c_str(), AT_REMOVEDIR) == 0 || errno != ENOTEMPTY) return;
     }
@@ -146,6 +148,11 @@ std::string Folder::room() {
     uint64_t left = fstatvfs(place, &found) == 0 ? uint64_t(found.f_bavail) * found.f_frsize : 0;
     std::string within = quoted(path.substr(0, path.rfind('/')));
     return "TMPDIR (" + within + ") has " + std::to_string(left / 1000000) + " MB left";
+}
+
+// Removes the pipes to an lrupd that has ended, and what it has saved.
+void Folder::clear() {
+    remove_within(openat(folder_file, ".", O_RDONLY | O_DIRECTORY | O_CLOEXEC), false);
 }
 
 // This process removes the folder itself, since the cleaner may be stopped.

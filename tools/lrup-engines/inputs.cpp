@@ -52,6 +52,13 @@ Inputs::Inputs(const Options &given) : options(given) {
     errors_handle(refused);
 }
 
+// If the front couldn't open an input, its name for it has the number of the error.
+static void check_opened(const std::string &path, const std::string &fronts) {
+    size_t number = fronts.rfind("/fd/-");
+    if (number != std::string::npos)
+        refuse(quoted(path) + ": " + strerror(atoi(fronts.c_str() + number + strlen("/fd/-"))));
+}
+
 // A path from which the input can be read more than once. The front has copied an input that isn't
 // a file on disk, or is packed.
 static std::string rereadable_path(const std::string &path, const std::string &fronts) {
@@ -65,6 +72,8 @@ void Inputs::find() {
     if (options.assume) inputs.push_back(options.assume);
     if (options.cubes) inputs.push_back(options.cubes);
     if (options.check) inputs.insert(inputs.end(), options.solvers.begin(), options.solvers.end());
+    check_opened(inputs[0], front.formula);
+    if (options.assume) check_opened(inputs[1], front.assumptions);
     for (const std::string &path : inputs) check_input(path);
     if (options.resumed)
         find_again(inputs);
@@ -98,6 +107,7 @@ void Inputs::keep() {
     if (has_formula) end_copy(formula_path);
     if (has_assumptions) end_copy(assume_path);
     std::vector<std::string> kept = { formula_path, assume_path };
+    kept.insert(kept.end(), copies.begin(), copies.end());
     if (options.resumed) kept.push_back(path_of_digests());
     for (const std::string &path : saved.paths()) kept.push_back(path);
     clear_record(options.proofs, kept);
@@ -184,6 +194,17 @@ void Inputs::read_formula() {
     if (!options.proofs) return;
     digest_of_formula = digest_of_file(formula_path);
     if (options.assume) digest_of_assumptions = digest_of_file(assume_path);
+    find_copy(COPY_OF_FORMULA, digest_of_formula);
+    if (options.assume) find_copy(COPY_OF_ASSUMPTIONS, digest_of_assumptions);
+}
+
+// In the reading thread, like its caller. A resumed run keeps the record's copy of an input, even
+// if the input was now given as another file.
+void Inputs::find_copy(const char *name, const std::string &digest) {
+    int file = options.resumed ? open_in_record(name) : -1;
+    if (file >= 0 && fault_of_file(file).empty() && digest_of(file, name) == digest)
+        copies.push_back(std::string(options.resumed) + "/" + name);
+    if (file >= 0) close(file);
 }
 
 // In the reading thread, like its caller. The checkpoint begins with the formula's own clauses,

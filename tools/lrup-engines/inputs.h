@@ -18,6 +18,7 @@ class Inputs {
     std::string formula_path, assume_path;  // to read them again
     double reading = 0;                     // seconds that reading the formula took
     std::string digests;                    // of both files, a line each, for the record
+    const double started = now();           // the run
 
     explicit Inputs(const Options &given);
     void find();  // the inputs' paths; opens the folder of --proofs
@@ -36,13 +37,14 @@ class Inputs {
     [[noreturn]] void refuse_formula(const std::string &cause) const;
 
   private:
-    double started = now();
     std::string digest_of_formula, digest_of_assumptions;
+    std::vector<std::string> copies;  // in the record, of these inputs
 
     void find_again(const std::vector<std::string> &inputs);
     std::string path_of_digests() const;
     void check_digests();
     void read_in_thread(const Meanwhile &meanwhile);
+    void find_copy(const char *name, const std::string &digest);
     std::string begin_copy(const std::string &path, const char *kept_as) const;
     void read_assumptions();
     void read_cubes();

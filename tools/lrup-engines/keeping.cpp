@@ -210,29 +210,3 @@ void Keeping::explain(const std::string &report, const Wait &wait) const {
     run_tool({ program, "--", inputs.formula_path, inputs.options.proofs }, child, said, wait);
     for (const std::string &line : lines_of(said)) display.tell_more(line);
 }
-
-// Says whether a clause that doesn't follow would follow if no clause had been deleted before it.
-std::string Keeping::explain_proof(const std::string &cause, const std::string &path,
-                                   const Wait &wait) const {
-    std::string program = find_tool("lrup-exact"), said, line = "exec \"$@\" > /dev/null";
-    if (program.empty() || cause.find("doesn't follow from those") == std::string::npos ||
-        !is_read_again(path))
-        return "";
-    Child child;
-    std::vector<std::string> words = { "/bin/sh",
-                                       "-c",
-                                       line,
-                                       "sh",
-                                       program,
-                                       "--ignore-deletions",
-                                       inputs.formula_path,
-                                       as_word(path.c_str()) };
-    if (!run_tool(words, child, said, wait)) return "";
-    unsigned long long first = 0, other = 0;
-    bool is_known = sscanf(cause.c_str(), "%*s %llu:", &first) == 1;
-    bool is_later = sscanf(said.c_str(), "lrup-exact: %*s %llu:", &other) == 1 && other > first;
-    if (is_known && (child.ended_with(0) || is_later))
-        return ". It would follow if no clause had been deleted before it: see lrup-exact's "
-               "--ignore-deletions";
-    return is_known && other == first ? ". Nor would it follow if none had been deleted" : "";
-}

@@ -28,9 +28,6 @@ class Keeping {
     std::string keep(bool is_proved, const std::string &lost, const Wait &wait) const;
     std::string describe(const Checker &checker, uint64_t rounds, const Wait &wait) const;
     void explain(const std::string &report, const Wait &wait) const;
-    // returns what to add to the cause
-    std::string explain_proof(const std::string &cause, const std::string &path,
-                              const Wait &wait) const;
 
   private:
     Inputs &inputs;

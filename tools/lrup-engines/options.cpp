@@ -10,6 +10,7 @@
 
 #include "options.h"
 #include "solve.h"
+#include "with_cadical.h"
 
 const char *program_name = "lrup-solve";
 
@@ -184,13 +185,7 @@ void check_engines(const Options &options) {
 
 }  // namespace
 
-// The library says sc2021 of 1.5.3 and others, after the competition of that year.
-std::string version() {
-    std::string own = engine_version();
-    bool is_number = !own.empty() && own[0] >= '0' && own[0] <= '9';
-    return std::string(program_name) + " " + VERSION + ", with CaDiCaL " +
-           (is_number ? own : "(its library calls itself " + own + ")");
-}
+std::string version() { return std::string(program_name) + " " VERSION WITH_CADICAL; }
 
 // lrup-check passes --check as the first word.
 Options read_words(int count, char **words) {

@@ -1,6 +1,9 @@
 // Unverified, like the whole solver. Packs and unpacks streams of a record.
+#include <algorithm>
 #include <cerrno>
 #include <cstdio>
+#include <cstdlib>
+#include <iterator>
 
 #include <fcntl.h>
 #include <sys/stat.h>
@@ -8,6 +11,7 @@
 
 #include "checker.h"
 #include "packed.h"
+#include "packers.h"
 #include "packing.h"
 #include "record.h"
 
@@ -16,10 +20,22 @@ namespace {
 const std::string PACKS = "zstd", ENDING = ".zst";
 const uint64_t LEAST = 1 << 20;  // bytes of a stream that is worth packing
 
-// In a child. Becomes a program that reads one file and writes the other.
-[[noreturn]] void become(const std::string &program, const char *how, int file, int out) {
-    int null = open("/dev/null", O_WRONLY | O_CLOEXEC);
-    if (dup2(file, 0) == 0 && dup2(out, 1) == 1 && dup2(null, 2) == 2)
+// What xz, gzip, bzip2 and zstd say, in C's locale, of a file that was truncated or has other bytes.
+// Whatever else one says, or however else it ends, the file may be as it was.
+const char *const WRONG_BYTES[] = { "Compressed data is corrupt", "File format not recognized",
+                                    "Unexpected end of input",    "invalid compressed data",
+                                    "not in gzip format",         "unexpected end of file",
+                                    "Data integrity error",       "is not a bzip2 file",
+                                    "ends unexpectedly",          "corruption detected",
+                                    "doesn't match checksum",     "premature end",
+                                    "unsupported format",         "unknown header" };
+
+// In a child. Becomes a program that reads the first file and writes the others.
+[[noreturn]] void become(const std::string &program, const char *how, int file, int out,
+                         int error) {
+    packers_forget_options();
+    setenv("LC_ALL", "C", 1);
+    if (dup2(file, 0) == 0 && dup2(out, 1) == 1 && dup2(error, 2) == 2)
         execl(program.c_str(), program.c_str(), how, static_cast<char *>(nullptr));
     _exit(127);
 }
@@ -42,7 +58,8 @@ bool pack(const std::string &program, const std::string &name) {
     int made = openat(record_folder, begun.c_str(), how, 0666);
     if (made < 0) return false;
     Child child;
-    if (begin(child, PACKS, { file, made })) become(program, "-1qc", file, made);
+    if (begin(child, PACKS, { file, made }))
+        become(program, "-1qc", file, made, open("/dev/null", O_WRONLY | O_CLOEXEC));
     wait_for(child);
     bool is_packed = child.ended_with(0) && fsync(made) == 0;
     close(made);
@@ -118,12 +135,28 @@ std::string name_in_record(const std::string &stream) {
     return stream;
 }
 
-int begin_unpacking(int file, const std::string &name, Child &child) {
-    const std::string program = on_the_path(packer_of(name.c_str()));
+// Without -q, since bzip2 would say nothing of a truncated file.
+int Unpacker::start(int file, const std::string &its_name) {
+    name = its_name;
+    program = packer_of(name.c_str());
+    const std::string found = on_the_path(program);
     Pipe pipe = make_pipe(0);
-    if (begin(child, "unpacker", { file, pipe.write })) become(program, "-dqc", file, pipe.write);
+    said = file_in_memory();
+    if (begin(child, "unpacker", { file, pipe.write, said }))
+        become(found, "-dc", file, pipe.write, said);
     close(file);
     close_file(pipe.write);
     fcntl(pipe.read, F_SETFL, O_NONBLOCK);
     return pipe.read;
+}
+
+std::string Unpacker::end() {
+    wait_for(child);
+    const std::string text = said < 0 ? "" : text_of(said);
+    close_file(said);
+    auto is_said = [&](const char *words) { return text.find(words) != std::string::npos; };
+    bool is_right = child.pid == 0 || child.ended_with(0);
+    if (is_right || std::any_of(std::begin(WRONG_BYTES), std::end(WRONG_BYTES), is_said)) return "";
+    const std::string first = text.substr(0, text.find('\n'));
+    return name + ": " + program + " " + child.end() + (first.empty() ? "" : ": ") + first;
 }

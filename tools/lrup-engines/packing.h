@@ -29,7 +29,20 @@ class Packer {
 
 std::string name_in_record(const std::string &stream);  // with the ending of a packed one
 
-// A pipe with what a child unpacks from the file, which is closed. Reading it doesn't block.
-int begin_unpacking(int file, const std::string &name, Child &child);
+// Unpacks a stream of a record.
+class Unpacker {
+  public:
+    Child child;  // of a stream that isn't packed: none
+
+    // A pipe with what the child unpacks from the file, which is closed. Reading it doesn't block.
+    int start(int file, const std::string &its_name);
+    // Waits for the child, once nobody needs the pipe. Returns its name and why it failed, or "" if
+    // it didn't, or if it says that the file's bytes are wrong.
+    std::string end();
+
+  private:
+    std::string name, program;
+    int said = -1;  // a file with its standard error
+};
 
 #endif

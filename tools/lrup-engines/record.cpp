@@ -23,6 +23,7 @@
 #include "errors.h"
 #include "folder.h"
 #include "packed.h"
+#include "packers.h"
 #include "packing.h"
 #include "record.h"
 #include "teams.h"
@@ -137,6 +138,8 @@ void read_list(const std::string &path) {
     const int how = O_RDWR | O_APPEND | O_NOFOLLOW | O_NONBLOCK | O_CLOEXEC;
     list_file = openat(record_folder, LIST, how);
     if (list_file < 0 && errno == ENOENT) return;
+    if (fstatat(record_folder, LIST, &found, AT_SYMLINK_NOFOLLOW) == 0 && found.st_uid != geteuid())
+        refuse(path + " is another user's: copy the folder, or name another one");
     bool is_ours = list_file >= 0 && fstat(list_file, &found) == 0 && S_ISREG(found.st_mode) &&
                    found.st_nlink == 1 && found.st_uid == geteuid();
     if (!is_ours) refuse_own(path);
@@ -552,9 +555,7 @@ std::string stream_name(uint64_t round, size_t number) {
 
 [[noreturn]] void refuse_file(const std::string &why) { refuse(why + NOT_RESUMED); }
 
-[[noreturn]] void refuse_changed(const std::string &path) {
-    refuse_file(path + " was changed since it was saved");
-}
+std::string change_of(const std::string &path) { return path + " was changed since it was saved"; }
 
 // Opens a file of the record, which has to be a regular one.
 int open_regular(const std::string &path) {
@@ -600,7 +601,8 @@ SavedRounds::Sizes SavedRounds::read_sizes(uint64_t round) const {
     bool is_right = sscanf(text.c_str(), "%llu %llu %llu", &streams, &lines, &room) == 3 &&
                     streams >= 1 && streams <= MOST_ENGINES && lines <= MOST_WORDS &&
                     room <= MOST_WORDS;
-    if (!is_right || is_changed(digest_of(text) + "  " + sizes_name(round))) refuse_changed(path);
+    if (!is_right || is_changed(digest_of(text) + "  " + sizes_name(round)))
+        refuse_file(change_of(path));
     return { size_t(streams), { lines, room } };
 }
 
@@ -631,15 +633,15 @@ void SavedRounds::check_stream(uint64_t round, size_t number) const {
 }
 
 // The file, or a pipe with what a child unpacks from it.
-static int open_unpacked(const std::string &folder, const std::string &name, Child &child) {
+static int open_unpacked(const std::string &folder, const std::string &name, Unpacker &unpacker) {
     const std::string there = name_in_record(name);
     int file = open_regular(folder + there);
-    return there == name ? file : begin_unpacking(file, there, child);
+    return there == name ? file : unpacker.start(file, there);
 }
 
-std::vector<int> SavedRounds::open(uint64_t round, std::vector<Child> &unpackers) const {
+std::vector<int> SavedRounds::open(uint64_t round, std::vector<Unpacker> &unpackers) const {
     std::vector<int> files;
-    unpackers.assign(streams(round), Child());
+    unpackers.assign(streams(round), Unpacker());
     for (size_t k = 0; k < streams(round); k++)
         files.push_back(kept_open(open_unpacked(folder, stream_name(round, k + 1), unpackers[k])));
     return files;
@@ -652,21 +654,22 @@ bool SavedRounds::is_changed(const std::string &line) const {
     return found == digests.end() || line.compare(0, DIGEST_DIGITS, found->second) != 0;
 }
 
-// A killed program doesn't show that the file was changed.
-bool SavedRounds::is_as_saved(const std::string &path) const {
+std::string SavedRounds::fault_of(const std::string &path, bool &was_changed) const {
     const std::string name = path.substr(path.rfind('/') + 1);
-    Child child;
-    int file = open_unpacked(folder, name, child);
+    Unpacker unpacker;
+    int file = open_unpacked(folder, name, unpacker);
     fcntl(file, F_SETFL, 0);
-    std::string digest = digest_of(file, path);
+    bool is_as_saved = !is_changed(digest_of(file, path) + "  " + name);
     close_file(file);
-    wait_for(child);
-    bool is_known = child.pid == 0 || (WIFEXITED(child.status) && !child.ended_with(127));
-    return !is_known || !is_changed(digest + "  " + name);
+    const std::string failure = unpacker.end();
+    was_changed = !is_as_saved && failure.empty();
+    return is_as_saved ? "" : was_changed ? change_of(path) : folder + failure;
 }
 
 void SavedRounds::check(const std::string &path) const {
-    if (!is_as_saved(path)) refuse_changed(path);
+    bool was_changed;
+    const std::string fault = fault_of(path, was_changed);
+    if (!fault.empty()) refuse_file(fault);
 }
 
 std::vector<std::string> SavedRounds::paths() const {

@@ -8,7 +8,7 @@
 
 #include <map>
 
-#include "solve.h"
+#include "packing.h"
 
 struct Place {
     int folder;
@@ -52,10 +52,11 @@ class SavedRounds {
     size_t streams(uint64_t round) const { return sizes[round - 1].streams; }
     Row row(uint64_t round) const { return sizes[round - 1].row; }
     // its streams, of which children unpack the packed ones into pipes
-    std::vector<int> open(uint64_t round, std::vector<Child> &unpackers) const;
+    std::vector<int> open(uint64_t round, std::vector<Unpacker> &unpackers) const;
     std::string checkpoint() const;             // its path
     void check(const std::string &path) const;  // refuses a file that was changed
-    bool is_as_saved(const std::string &path) const;
+    // reads the file again; returns why it isn't as it was saved, or ""
+    std::string fault_of(const std::string &path, bool &was_changed) const;
     bool is_changed(const std::string &line) const;  // the line: a digest, a name
     std::vector<std::string> paths() const;          // of all files of these rounds
 

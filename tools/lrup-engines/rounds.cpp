@@ -55,13 +55,14 @@ bool Rounds::size(uint64_t clauses, uint64_t literals) {
 
 // Whatever --memory says, a row may be twice as large as the formula. A resumed run's row is as
 // large as before.
-void Rounds::begin(const std::string &program) {
+void Rounds::begin() {
     uint64_t clauses = inputs.first_formula.clauses, literals = literals_of(inputs.first_formula),
              last = inputs.saved.count();
     number = last + 1;
     ended = inputs.saved;
     saver.saved = last > 0 ? number : 0;
-    checker_program = program;
+    checker_program = absolute(front.lrupd);
+    checker.keeps_digests = inputs.options.record != nullptr;
     rows_open(&rows, inputs.options.memory, inputs.options.most_memory, teams.size());
     if (teams.has_windows()) rows.words *= LARGER_FIRST_ROW;
     Row row = last > 0 ? inputs.saved.row(last) : Row{ 0, 0 };
@@ -227,12 +228,12 @@ void Rounds::open_saved() { saved_streams = ended.open(checked, unpackers); }
 // An unpacker that nobody reads ends by a signal.
 void Rounds::close_saved() {
     for (int &file : saved_streams) close_file(file);
-    for (Child &child : unpackers) wait_for(child);
+    for (Unpacker &unpacker : unpackers) unpacker.end();
 }
 
 std::vector<Child *> Rounds::children() {
-    std::vector<Child *> list = { &packer.child };
-    for (Child &child : unpackers) list.push_back(&child);
+    std::vector<Child *> list = { &saver.child, &packer.child };
+    for (Unpacker &unpacker : unpackers) list.push_back(&unpacker.child);
     return list;
 }
 
@@ -264,15 +265,22 @@ std::string Rounds::checkpoint_path() const {
     return Folder::name() + "/" + name_of_round(checked) + ".cnf";
 }
 
-// A file of lrupd's round was changed, so this round and those after it are useless. The record now
-// ends before this round, and the run can be resumed from there.
+// Returns why lrupd has read other bytes than those that were saved in this file. If the file was
+// changed, its round and those after it are useless: the record now ends before this round, and the
+// run can be resumed from there. The failure of an unpacker changes nothing.
 std::string Rounds::end_record(const std::string &path) {
     std::vector<std::string> &digests = checker.digests;
     size_t named = 0;
-    if (ended.is_as_saved(path))
-        return path + " was read with other bytes than before: the disk or the memory is at fault";
-    const std::string cause = path + " was changed since it was saved",
+    bool was_changed = false;
+    for (size_t k = 0; k < unpackers.size(); k++) {
+        std::string failure = checker.has_digest(k) ? unpackers[k].end() : "";
+        if (!failure.empty()) return teams.record + failure;
+    }
+    const std::string cause = ended.fault_of(path, was_changed),
                       sizes = name_of_round(checked) + ".sizes";
+    if (cause.empty())
+        return path + " was read with other bytes than before: the disk or the memory is at fault";
+    if (!was_changed) return cause;
     if (checked > 1) {
         while (named < digests.size() && digests[named].substr(BEFORE_NAME) != sizes) named++;
         digests.resize(named);
@@ -419,15 +427,6 @@ void Rounds::end_round(bool full) {
     teams.go_on();
 }
 
-// Call once all filters of the proof have ended.
-void Rounds::leave_to_one(size_t k) {
-    bool has_ended = state == SAVING || (state == ENDING && teams.have_ended(k, number));
-    if (has_ended)
-        teams.awaits_one = true;
-    else
-        teams.start_alone(k, number);
-}
-
 // lrupd has saved the round: filters take the new identities, and meanwhile lrupd begins the next
 // round.
 std::string Rounds::map_round() {
@@ -450,14 +449,8 @@ std::string Rounds::map_round() {
     uint64_t before = rows.words;
     if (is_full) rows_grow(&rows);
     if (test_hooks.same_words) rows.words = before;
-    bool fits = make_room(size(saved.old.length, saved.literals));
-    if (!fits && teams.leave_next_to_one()) {
-        display.tell_more(teams.name_of_proof(0) +
-                          ": the clauses of several filters leave no room, "
-                          "so one filter checks it, from its beginning");
-        fits = make_room(size(saved.old.length, saved.literals));
-    }
-    if (!fits) return "the remaining clauses leave no room" + in_a_row_of(rows.largest);
+    if (!make_room(size(saved.old.length, saved.literals)))
+        return "the remaining clauses leave no room" + in_a_row_of(rows.largest);
     begin_round();
     return "";
 }
@@ -470,7 +463,6 @@ void Rounds::begin_round() {
     teams.open_streams(number);
     keep_sizes();
     checker.begin_round(rows.row, teams.stream_files());
-    if (teams.awaits_one) teams.start_alone(0, number);
 }
 
 void Rounds::go_on() {

@@ -32,18 +32,18 @@ class Rounds {
     Rounds(const Inputs &its_inputs, Teams &its_teams, Checker &its_checker,
            const Display &its_display)
         : inputs(its_inputs), teams(its_teams), checker(its_checker), display(its_display) {}
-    void begin(const std::string &program);  // lrupd's path
-    std::string begin_message() const;       // a message about a resumed run
-    std::string advance();                   // returns why the run can't continue, or ""
-    std::string feed(bool is_last);          // feeds lrupd; returns why it can't, or ""
+    Rounds(const Rounds &) = delete;
+    ~Rounds() { checkpoint_free(&saved); }
+    void begin();
+    std::string begin_message() const;  // a message about a resumed run
+    std::string advance();              // returns why the run can't continue, or ""
+    std::string feed(bool is_last);     // feeds lrupd; returns why it can't, or ""
     bool is_behind() const { return checked < number; }  // lrupd still checks earlier rounds
     void save_last();                                    // saves the last round, for a resumed run
-    // lets one filter take the whole proof: at once or, if this round has ended, in the next one
-    void leave_to_one(size_t k);
     bool is_saving() const;
     std::string resume_message();     // a message
     double next_saving() const;       // when a round that has room ends; INFINITY: never
-    std::vector<Child *> children();  // those that unpack or pack streams
+    std::vector<Child *> children();  // those that save a round, and unpack or pack streams
     void end_streams();               // those of the last round, which are whole
     std::string keep_report() const;  // returns why it can't, or ""
 
@@ -53,11 +53,11 @@ class Rounds {
     Checker &checker;
     const Display &display;
     std::string checker_program, said;
-    SavedRounds ended;               // of a resumed run: those that lrupd gets first
-    Row first = {};                  // of round 1
-    std::vector<int> saved_streams;  // of the saved round that lrupd is in
-    std::vector<Child> unpackers;    // of these streams
-    size_t compared = 0;             // how many of the checker's digests
+    SavedRounds ended;                // of a resumed run: those that lrupd gets first
+    Row first = {};                   // of round 1
+    std::vector<int> saved_streams;   // of the saved round that lrupd is in
+    std::vector<Unpacker> unpackers;  // of these streams
+    size_t compared = 0;              // how many of the checker's digests
     uint64_t literals_before = 0;
     double pause_begun = 0, begun = now();  // when the last pause and the round began
     bool is_full = false;                   // the row is full, so the round ends

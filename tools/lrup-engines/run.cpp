@@ -5,6 +5,7 @@
 #include <csignal>
 #include <cstdio>
 #include <cstring>
+#include <new>
 
 #include <sys/wait.h>
 #include <unistd.h>
@@ -15,29 +16,32 @@ namespace {
 
 const double ENDING = 10;  // seconds that a filter has for its current line
 const double SAVING = 6;   // seconds to save the last round; the front waits a bit longer
+const double TRYING = 1;   // seconds at least, once a check has failed
+const double MOMENT = 1;   // seconds in which the front ends lrupd
 
 }  // namespace
 
 // Signals are handled here only once there is something to end.
 void Run::prepare() {
     Options &options = inputs.options;
-    std::string program = absolute(front.lrupd);
+    // before other processes of this run keep cores busy
+    if (options.engines == 0 && options.solvers.empty()) options.engines = usual_engines();
+    options.filters = filters_of(options);
     Folder::make();
     front.start_probe();
-    if (options.engines == 0 && options.solvers.empty()) options.engines = half_of_the_cores();
-    options.filters = filters_of(options);
     options.engines += int(options.solvers.size()) * options.filters;
-    keeping.prepare(program);
-    checker.keeps_digests = options.record != nullptr;
+    keeping.prepare(absolute(front.lrupd));
     inputs.find();
     keeping.check_outputs(true);
     display.begin();
+    if (!options.check)
+        display.tell_more(version() + (engines_have_hints ? ", which gives hints" : ""));
     inputs.read([this](int file) { await_formula(file); });
     if (options.replace) await_acceptance();
     inputs.keep();
     teams.open(inputs.saved.count() + 1);
     teams.open_models();
-    rounds.begin(program);
+    rounds.begin();
     loop.begin();
     while (reap(children())) {}  // the probe may have ended before
     for (size_t k = 0; k < inputs.cubes.size(); k++) teams.dealer.queue.push_back(k);
@@ -99,7 +103,7 @@ double Run::next_timeout() const {
 
 std::vector<Child *> Run::children() {
     std::vector<Child *> list = teams.children();
-    list.insert(list.end(), { &front.probe.child, &rounds.saver.child });
+    list.push_back(&front.probe.child);
     for (Child *child : rounds.children()) list.push_back(child);
     if (others) list.push_back(others->carrier);
     return list;
@@ -138,7 +142,8 @@ bool Run::saves_first() {
         saving = now() + SAVING;
         rounds.save_last();
     }
-    if (!inputs.options.may_be_resumed() || now() >= saving) return false;
+    if (!inputs.options.may_be_resumed() || now() >= saving || phase == BEGINNING_AGAIN)
+        return false;
     return phase == SOLVING ? rounds.is_saving() : !rounds.is_behind();
 }
 
@@ -148,11 +153,12 @@ void Run::handle_events() {
     std::string why = reason_to_end();
     if (!why.empty()) return finish(UNKNOWN_ANSWER, why);
     check_probe();
+    if (phase == BEGINNING_AGAIN) end_filters();
     if (phase == SOLVING) check_teams();
     if (phase == SOLVING && rounds.state == Rounds::OPEN) schedule_engines();
     if (phase == SOLVING) check_lrupd();
     if (phase == ENDING_STREAMS) end_streams();
-    if (phase != DONE) why = rounds.feed(phase == CHECKING);
+    if (phase != DONE && phase != BEGINNING_AGAIN) why = rounds.feed(phase == CHECKING);
     if (!why.empty()) finish(UNKNOWN_ANSWER, why);
     if (phase == CHECKING && checker.child.ended()) verdict();
     loop.polls_only = phase != DONE && (phase != phase_before || rounds.state != state_before);
@@ -220,7 +226,7 @@ void Run::check_team(size_t k) {
     if (filter.ended()) STORE(facts.gone, 1);
     if (phase != SOLVING || team.told || said == SATISFIABLE) return;
     bool both_ended = team.engine.ended() && filter.ended_with(0);
-    if (leave_to_one(k) || check_copier(k) || check_end(k) || !filter.ended() ||
+    if (check_several(k) || check_copier(k) || check_end(k) || !filter.ended() ||
         !(both_ended || !filter.ended_with(0)))
         return;
     if (facts.proof_ended && team.engine.running) return;  // the engine ends soon, too
@@ -232,21 +238,14 @@ void Run::check_team(size_t k) {
     teams.end_filters(k);
 }
 
-// Lets one filter take the whole proof if several can't check it, or if one of them was killed.
-// Returns whether that is so.
-bool Run::leave_to_one(size_t k) {
-    if (teams.awaits_one) return true;
-    const EngineStatus &facts = teams.engine_status(teams.decider(k));
+// Whether the proof is begun again, since its filters can't check it together, or one was killed.
+bool Run::check_several(size_t k) {
+    const size_t decider = teams.decider(k);
+    const Child &filter = teams[decider].filter;
     bool has_died = teams.has_died(k),
-         needs_one = teams[teams.decider(k)].filter.ended() && facts.needs_one;
-    if (!(has_died || needs_one) || teams.is_copied_no_more(k) || !teams.can_restart(k))
-        return false;
-    std::string why = has_died ? "a filter " + teams[teams.decider(k)].filter.end() + ", so " : "";
-    if (!teams.end_filters(k)) return true;
-    display.tell_more(teams.name_of_proof(k) + ": " + why +
-                      "one filter checks it, from its beginning");
-    rounds.leave_to_one(k);
-    return true;
+         needs_one = filter.ended() && teams.engine_status(decider).needs_one;
+    if (!(has_died || needs_one) || teams.is_copied_no_more(k)) return false;
+    return begin_again(has_died ? "a filter " + filter.end() + ", so " : "");
 }
 
 // Whether what copies a solver's proof has ended too early. The solver would wait for it.
@@ -286,7 +285,7 @@ bool Run::check_end(size_t k) {
     bool has_cause = teams.engine_status(decider).cause[0];
     bool has_ended =
         team.engine.ended() && (teams[decider].filter.ended_with(0) || !team.engine.ended_with(0));
-    bool is_unread = inputs.options.check && has_ended && facts.stderr_end[0],
+    bool is_unread = inputs.options.check && teams.is_copied_no_more(k),
          has_no_filter = inputs.options.check && team.engine.ended_with(0);
     if (LOAD(facts.answer) != 0 || (has_cause && !is_unread) || !has_ended || has_no_filter)
         return false;
@@ -294,7 +293,8 @@ bool Run::check_end(size_t k) {
     team.idle = !lacks_assignment && LOAD(facts.lines) == 0 && !is_usual(team.engine);
     static const char no_values[] = "it says 'satisfiable', but gives no assignment in lines v";
     std::string end = inputs.options.check ? "it can't be read" : end_of(k);
-    if (is_unread) end += std::string(": ") + facts.stderr_end;
+    if (inputs.options.check)
+        end += ": " + (facts.stderr_end[0] ? facts.stderr_end : "its process " + team.engine.end());
     tell_lost(k, lacks_assignment ? no_values : end);
     // The engine's process, which was killed, hasn't ended what the solver started.
     if (LOAD(facts.group)) kill(-LOAD(facts.group), SIGKILL);
@@ -313,7 +313,7 @@ void Run::check_ends() {
 void Run::tell_lost(size_t k, const std::string &why) {
     teams[k].told = true;
     teams[k].cause = why;
-    display.tell_more(teams.why_lost(k));
+    if (display.tells_at_once()) display.tell(teams.why_lost(k));
 }
 
 // The answer has to wait until lrupd has read the formula, which it may refuse.
@@ -335,7 +335,41 @@ void Run::check_lrupd() {
     if (is_proved || (checker.child.ended() && rounds.state == Rounds::SAVING)) return verdict();
     if (checker.child.ended()) return finish(UNKNOWN_ANSWER, end_of_checker());
     std::string why = rounds.advance();
-    if (!why.empty()) finish(UNKNOWN_ANSWER, why);
+    if (!why.empty() && !begin_again(why + ", so ")) finish(UNKNOWN_ANSWER, why);
+}
+
+// Begins the only proof again, with one filter. False if the proof can't be read again.
+bool Run::begin_again(const std::string &why) {
+    if (!teams.can_begin_again() || checker.child.ended()) return false;
+    display.tell_more(teams.name_of_proof(0) + ": " + why +
+                      "one filter checks it, from its beginning");
+    if (checker.child.pid) front.say("over");
+    phase = BEGINNING_AGAIN;
+    return true;
+}
+
+// Ends all that checks the proof, but not what writes it. Then everything is as if one filter had
+// been asked for.
+void Run::end_filters() {
+    bool all_ended = teams.end_filters(0) && !checker.child.pid;
+    for (Child *child : rounds.children()) {
+        child->signal(SIGKILL);
+        all_ended &= !child->running;
+    }
+    if (checker.child.ended()) return verdict();  // by itself, before it was asked to
+    if (!all_ended) return;
+    phase = SOLVING;
+    if (teams.is_copied_no_more(0)) return;  // it may have read more of the proof than it has kept
+    inputs.options.filters = inputs.options.engines = 1;
+    inputs.keep();
+    Folder::clear();
+    display.forget();
+    teams.forget_filters();
+    teams.open(1);
+    rounds.~Rounds();
+    new (&rounds) Rounds(inputs, teams, checker, display);
+    rounds.begin();
+    teams.start(false);
 }
 
 void Run::end_streams() {
@@ -404,8 +438,7 @@ void Run::await_reading() {
 }
 
 // Waits for a tool that is called at the end. False if the run has to end first.
-bool Run::await_end(Child &child) {
-    double time = inputs.deadline();
+bool Run::await_end(Child &child, double time) {
     bool goes_on = true;
     while (child.running) {
         front.say("busy");  // so the front waits some seconds more
@@ -416,26 +449,41 @@ bool Run::await_end(Child &child) {
     return goes_on;
 }
 
-void Run::explain_proof(size_t k, const Keeping::Wait &wait_for_end) {
-    std::string more =
-        teams[k].told ? keeping.explain_proof(teams[k].cause, teams.proof_of(k), wait_for_end) : "";
-    teams[k].cause += more;
-    if (!more.empty()) display.tell_more(teams[k].command + ":" + more.substr(1));
+// Says whether a step that doesn't follow would follow if no clause had been deleted before it.
+void Run::try_without_deletions(size_t k, double time) {
+    const std::string path = teams.proof_of(k), name = teams[k].command + ": ";
+    const bool is_open = teams[k].cause.find("doesn't follow from those") != std::string::npos;
+    if (!is_open || !is_read_again(path) || is_ended() || now() >= time) return;
+    Child trial;
+    uint64_t step = LOAD(teams.engine_status(teams.decider(k)).steps);
+    display.tell(name + "trying whether it would follow if no clause had been deleted before it");
+    if (begin(trial, "trial", {})) {
+        raise_oom_score();
+        trial_process(&inputs.first_formula, path.c_str(), step);
+    }
+    await_end(trial, time);
+    teams[k].filter.seconds += trial.seconds;
+    if (trial.ended_with(FOLLOWS))
+        display.tell(name + "it would: see lrup-exact's --ignore-deletions");
+    else
+        display.tell(name + (trial.ended_with(STILL_NO_STEP) ? "it wouldn't" : "that isn't known"));
 }
 
 void Run::end_all() {
     for (Child *child : children()) child->signal(SIGKILL);
     for (Child *child : children()) wait_for(*child);
     rounds.packer.end();
-    Keeping::Wait wait_for_end = [this](Child &child) { return await_end(child); };
+    Keeping::Wait wait_for_end = [this](Child &c) { return await_end(c, inputs.deadline()); };
     if (has_report && answer == UNSATISFIABLE && inputs.options.record)
         remove_checkpoints(inputs.options.record);
     if (has_report) unkept = keeping.describe(checker, rounds.number, wait_for_end);
     std::string why = keeping.keep(answer == UNSATISFIABLE, teams.lost, wait_for_end);
     if (unkept.empty()) unkept = why;
     if (checker.child.ended()) keeping.explain(checker.report, wait_for_end);
-    for (size_t k = 0; inputs.options.check && k < teams.size() && answer == UNKNOWN_ANSWER; k++)
-        explain_proof(k, wait_for_end);
+    double time = now(), until = time + std::max(TRYING, time - inputs.started);
+    bool is_failed = inputs.options.check && answer == UNKNOWN_ANSWER && !checker.child.ended();
+    for (size_t k = 0; is_failed && !inputs.options.quiet && k < teams.size(); k++)
+        try_without_deletions(k, std::min(inputs.deadline(), until));
     end_children();
 }
 
@@ -465,6 +513,14 @@ void Run::send_answer() {
     if (answer == UNKNOWN_ANSWER && !unstarted.empty()) refuse(unstarted);
 }
 
+// If its streams ended first, lrupd would save its clauses, which takes seconds on a busy disk.
+void Run::end_checker() {
+    if (!checker.child.running) return;
+    front.say("over");
+    for (double time = now() + MOMENT; checker.child.running && now() < time;)
+        wait_at_end({}, time);
+}
+
 int Run::solve(const Elsewhere *elsewhere) {
     others = elsewhere;
     prepare();
@@ -478,6 +534,7 @@ int Run::solve(const Elsewhere *elsewhere) {
     await_reading();
     end_all();
     send_answer();
+    end_checker();
     Folder::remove();
     return 0;
 }

@@ -33,7 +33,7 @@ class Run {
     int solve(const Elsewhere *elsewhere);  // NULL: all engines are here; returns the status
 
   private:
-    enum Phase { SOLVING, ENDING_STREAMS, CHECKING, DONE };
+    enum Phase { SOLVING, BEGINNING_AGAIN, ENDING_STREAMS, CHECKING, DONE };
 
     Phase phase = SOLVING;
     Answer answer = UNKNOWN_ANSWER;
@@ -65,7 +65,7 @@ class Run {
     void check_teams();
     void check_team(size_t k);
     bool check_end(size_t k);
-    bool leave_to_one(size_t k);
+    bool check_several(size_t k);
     bool check_copier(size_t k);
     std::string end_of(size_t k) const;
     std::string end_before(size_t k) const;
@@ -74,17 +74,20 @@ class Run {
     void tell_lost(size_t k, const std::string &why);
     void check_lrupd();
     std::string end_of_checker() const;
+    bool begin_again(const std::string &why);
+    void end_filters();
     void end_streams();
     void verdict();
     void finish(Answer found, const std::string &why);
     void wait_at_end(const std::vector<Child *> &list, double time);
     void end_solving();
     void await_reading();
-    bool await_end(Child &child);
-    void explain_proof(size_t k, const Keeping::Wait &wait_for_end);
+    bool await_end(Child &child, double time);
+    void try_without_deletions(size_t k, double time);
     void end_all();
     std::string line_of_answer() const;
     void send_answer();
+    void end_checker();
 };
 
 // main.cpp; lrup-engines-mpi: mpi_run.cpp

@@ -54,7 +54,7 @@ typedef struct {
     uint64_t usable;        // bits: the variables of cubes that it froze, and that are open
     uint64_t refuted_cube;  // the number of the last cube that it refuted
     uint64_t refuted_cubes;
-    // The filter writes:
+    // The filter writes; these fields, and those below, are cleared if the proof is begun again:
     uint64_t lines, literals, hints, given;  // of all rounds
     uint64_t other_hints;                    // lines whose hints in the proof weren't right
     // lines that cite another stream; lines that cite a stream of another host
@@ -75,7 +75,7 @@ typedef struct {
     // Of a filter that shares its proof with others: its first window that isn't whole, counted
     // from 0 in each round, or NO_WINDOW; how many of its windows are whole, and what they have in
     // all, by their number modulo WINDOWS_NOTED; the additions before the step at which it stopped,
-    // or NO_STOP; whether one filter has to take the whole proof.
+    // or NO_STOP; whether one filter has to check the whole proof.
     uint64_t window, windows;
     Written written[WINDOWS_NOTED];
     uint64_t stopped_at;
@@ -183,7 +183,6 @@ typedef struct {
     // window; the engine that writes the proof is the first one's
     uint64_t filters, number, window;
     uint64_t clauses;   // of the round's formula
-    uint64_t taken;     // the stream has clauses of another filter, up to this identity
     uint64_t round;     // from 1
     int proof, stream;  // the pipe of the engine's proof; the stream's file
     int spare;          // a file in memory for when the record can't be written, or -1
@@ -204,6 +203,10 @@ extern "C" {
 #endif
 
 _Noreturn void filter_process(const Filtering *filtering, const void *formula);  // filtering.c
+
+// trial.c: tries the proof's step, and ends with one of these statuses.
+enum { FOLLOWS = 0, STILL_NO_STEP = 1, ANOTHER_STOP = 2 };
+_Noreturn void trial_process(const void *formula, const char *path, uint64_t step);
 
 // loop.cpp: event counts
 uint64_t events_so_far(const EventCount *events);

@@ -16,9 +16,9 @@ extern const char *program_name;  // options.cpp
 
 // options.cpp: the command line.
 struct Options {
-    int engines = 0;     // 0: half of the cores; solvers are added later
+    int engines = 0;     // 0: half of the free cores; solvers are added later
     bool check = false;  // lrup-check: solvers are existing proofs
-    int filters = 0;     // of the only proof; 0: depends on its length and the cores
+    int filters = 0;     // of the only proof; 0: depends on its length and the free cores
     // commands, or paths of proofs; they become the last engines, which share nothing
     std::vector<const char *> solvers;
     double seconds = 0;  // for the run; 0: no limit
@@ -120,6 +120,7 @@ const std::string &name();
 std::string numbers();    // this process's id, and the folder's descriptor, for the front
 std::string open_name();  // its name for other processes, in UTF-8
 std::string room();       // the space left there, in words
+void clear();             // for another lrupd
 void remove();
 }  // namespace Folder
 
@@ -156,7 +157,7 @@ struct Engine {
 };
 
 [[noreturn]] void engine_process(const Engine &engine);
-const char *engine_version();
+extern const bool engines_have_hints;  // from CaDiCaL, depending on its version
 
 // solver.cpp: a process for a user's solver, which opens these files.
 std::string solver_command(const std::string &command, const std::string &formula,

@@ -3,6 +3,8 @@
 #include <cmath>
 #include <csignal>
 #include <cstring>
+#include <fstream>
+#include <iterator>
 #include <sstream>
 
 #include <fcntl.h>
@@ -27,8 +29,9 @@ const uint64_t WINDOW = 1000;      // additions
 // Without -j: bytes of a proof for each of its filters; how many times as long a packed proof is;
 // and how many filters a proof has at most, since each of them reads all of it.
 const uint64_t SHARE = 1 << 20, UNPACKED = 4;
-const int MOST_FILTERS = 16;
-const size_t HEAD = 1 << 20;  // bytes of a proof that show whether it is a stream
+const int MOST_FILTERS = 16, FILTERS_WITH_HINTS = 2;
+const size_t HEAD = 1 << 20;  // bytes of a proof that show its form
+const size_t FEW = 1000;      // .. and whether it is text
 
 }  // namespace
 
@@ -39,18 +42,76 @@ static int count_cores() {
                                                            : int(sysconf(_SC_NPROCESSORS_ONLN));
 }
 
-int half_of_the_cores() { return std::min(int(MOST_ENGINES), std::max(1, count_cores() / 2)); }
+// Of these cores: those that others keep busy, on average of the last minute. If fewer processes run
+// right now, these count: an earlier run of this program may just have ended.
+static int count_free_cores() {
+    std::ifstream file("/proc/loadavg");
+    double load = 0, ignored = 0;
+    uint64_t running = 1;  // with this process
+    file >> load >> ignored >> ignored >> running;
+    load = double(hooked(test_hooks.load, uint64_t(100 * load))) / 100;
+    running = hooked(test_hooks.running, running);
+    return count_cores() - int(std::min(std::lround(load), long(running) - 1));
+}
 
-// For each of several proofs, and beside engines: one. A solver, and a pipe's writer, needs a core.
+static int half_of(int cores) { return std::clamp(cores / 2, 1, int(MOST_ENGINES)); }
+
+int usual_engines() { return half_of(count_free_cores()); }
+
+// The first bytes of a proof, unpacked; fewer if it can't be read, or only once.
+static std::string head_of(const std::string &path) {
+    std::string head(HEAD, 0);
+    Unpacking unpacking = {};
+    int file = is_read_again(path) ? unpacking_open(&unpacking, path.c_str()) : -1;
+    size_t length = 0;
+    for (ssize_t count = 1; file >= 0 && count > 0 && length < HEAD; length += size_t(count))
+        count = std::max<ssize_t>(0, read(file, &head[length], HEAD - length));
+    if (file >= 0) close(file);
+    unpacking_leave(&unpacking);
+    return head.substr(0, length);
+}
+
+// Whether the first addition of a proof in text has hints, as in LRAT, or FRAT with a list l.
+static bool has_hints_in_text(const std::string &head) {
+    std::istringstream lines(head);
+    std::string line;
+    while (std::getline(lines, line)) {
+        std::istringstream list(line);
+        std::vector<std::string> words{ std::istream_iterator<std::string>(list), {} };
+        bool is_other = words.empty() || words[0] == "c" || words[0] == "o" || words[0] == "d" ||
+                        (words.size() > 1 && (words[1] == "d" || words[1] == "i"));
+        if (is_other) continue;
+        return std::count(words.begin(), words.end(), words[0] == "a" ? "l" : "0") ==
+               (words[0] == "a" ? 1 : 2);
+    }
+    return false;
+}
+
+// Whether the steps of a proof have hints. A binary one has them if its lists don't alternate with
+// letters: only the lists end with a byte that is 0.
+static bool has_hints(const std::string &head) {
+    auto is_text = [](char byte) { return byte == '\n' || (byte >= ' ' && byte <= '~'); };
+    if (std::all_of(head.begin(), head.begin() + long(std::min(head.size(), FEW)), is_text))
+        return has_hints_in_text(head);
+    for (size_t at = 0; at < head.size(); at = std::min(head.find('\0', at), head.size() - 1) + 1)
+        if (head[at] != 'a' && head[at] != 'd') return true;
+    return false;
+}
+
+// For each of several proofs, and beside engines: one; also in a resumed run, since a proof that is
+// begun again begins the record again. A solver, and a pipe's writer, needs a core. With hints two
+// filters are faster than more of them: reading takes most of their time.
 int filters_of(const Options &options) {
     struct stat found;
-    if (options.solvers.size() != 1 || options.engines > 0) return 1;
+    if (options.solvers.size() != 1 || options.engines > 0 || options.resumed) return 1;
     if (options.filters > 0) return options.filters;
     const char *path = options.solvers[0];
+    const int cores = std::clamp(count_free_cores(), 1, MOST_FILTERS + 1);
     if (!options.check || stat(path, &found) != 0 || !S_ISREG(found.st_mode))
-        return std::clamp(count_cores() - 1, 1, MOST_FILTERS);
+        return std::max(cores - 1, 1);
     uint64_t shares = uint64_t(found.st_size) * (packer_of(path) ? UNPACKED : 1) / SHARE;
-    return int(std::clamp<uint64_t>(shares, 1, uint64_t(std::min(count_cores(), MOST_FILTERS))));
+    const int most = int(std::clamp<uint64_t>(shares, 1, uint64_t(std::min(cores, MOST_FILTERS))));
+    return most > FILTERS_WITH_HINTS && has_hints(head_of(path)) ? FILTERS_WITH_HINTS : most;
 }
 
 void copy_name(char (&place)[LONGEST_PATH], const std::string &name) {
@@ -103,12 +164,12 @@ bool Teams::have_all(uint64_t EngineStatus::*field, uint64_t wanted) const {
 size_t Teams::decider(size_t k) const {
     size_t first = first_of(k), found = first;
     auto stop_of = [this](size_t n) { return LOAD(engine_status(n).stopped_at); };
-    for (size_t n = first; n < first + filters_at_work(); n++) {
+    for (size_t n = first; n < first + filters(); n++) {
         bool is_dead =
             list[n].filter.ended() && stop_of(n) == NO_STOP && !list[n].filter.ended_with(0);
         if (is_dead) return n;
     }
-    for (size_t n = first; n < first + filters_at_work(); n++) {
+    for (size_t n = first; n < first + filters(); n++) {
         if (list[n].filter.running) return n;
         if (stop_of(n) < stop_of(found)) found = n;
     }
@@ -132,7 +193,7 @@ std::vector<Child *> Teams::children() {
 
 void Teams::open(uint64_t round) {
     const Options &options = inputs.options;
-    shared = shared_memory<Shared>(1);
+    if (!shared) shared = shared_memory<Shared>(1);
     shared->engines = shared->engines_here = options.engines;
     shared->outbox_words = options.shares() ? hooked(test_hooks.outbox, OUTBOX_WORDS) : 1;
     shared->round = round;
@@ -166,15 +227,8 @@ void Teams::set_here(int first, int count) {
 
 // Among several proofs: whether the first clause that proof k adds has an identity of stream k.
 bool Teams::is_a_stream(size_t k) const {
-    std::string path = inputs.options.solvers[k], head(HEAD, 0), line, second;
-    Unpacking unpacking = {};
-    int file = is_read_again(path) ? unpacking_open(&unpacking, path.c_str()) : -1;
-    size_t length = 0;
-    for (ssize_t count = 1; file >= 0 && count > 0 && length < HEAD; length += size_t(count))
-        count = std::max<ssize_t>(0, read(file, &head[length], HEAD - length));
-    if (file >= 0) close(file);
-    unpacking_leave(&unpacking);
-    std::istringstream lines(head.substr(0, length));
+    std::istringstream lines(head_of(inputs.options.solvers[k]));
+    std::string line, second;
     while (std::getline(lines, line)) {
         std::istringstream words(line);
         uint64_t identity = 0;
@@ -226,13 +280,13 @@ void Teams::start(bool is_first_alone) {
     STORE(shared->cubes_left, inputs.cubes.size());
     is_first_alone &= !test_hooks.at_once && !list.empty() && !is_solver(0);
     for (size_t k = 0; k < list.size(); k++)
-        if (k == 0 || !is_first_alone || is_solver(k)) start_team(k, LOAD(shared->round));
+        if (k == 0 || !is_first_alone || is_solver(k)) start_team(k);
     others_start = is_first_alone ? now() + MOMENT + READINGS * inputs.reading : 0;
 }
 
 void Teams::start_others() {
     for (size_t k = 1; k < list.size() && others_start > 0; k++)
-        if (!is_solver(k)) start_team(k, LOAD(shared->round));
+        if (!is_solver(k)) start_team(k);
     others_start = 0;
 }
 
@@ -245,16 +299,16 @@ double Teams::next_start() const {
 // If there are fewer cores than processes, pipes are small: an engine far ahead of its filter would
 // take cores from others, and its proof would come late.
 int Teams::size_of_pipes() const {
-    bool is_crowded = filters() == 1 && shared->engines_here > half_of_the_cores();
+    bool is_crowded = filters() == 1 && shared->engines_here > half_of(count_cores());
     return is_crowded ? CROWDED_PIPE
                       : std::min(PROOF_PIPE, ALL_PROOF_PIPES / inputs.options.engines);
 }
 
 // No other child gets these pipes: a child that is stopped when it starts would keep them open.
 // Engines of other hosts start there. An engine starts with all filters of its proof.
-void Teams::start_team(size_t k, uint64_t round) {
+void Teams::start_team(size_t k) {
     if (k != first_of(k)) return;
-    const size_t end = k + filters_at_work();
+    const size_t end = k + filters();
     if (has_windows() && comes_once(k)) open_once(k);
     if (!is_here(k)) {
         for (Child *child : { &list[k].engine, &list[k].filter })
@@ -262,7 +316,7 @@ void Teams::start_team(size_t k, uint64_t round) {
         return;
     }
     for (size_t n = k; n < end; n++) list[n].proof = make_pipe(size_of_pipes());
-    for (size_t n = k; n < end; n++) start_filter(n, round);
+    for (size_t n = k; n < end; n++) start_filter(n);
     if (inputs.options.check || list[k].engine.pid == 0) start_engine(k);
     if (list[k].once.read >= 0 && !inputs.options.check) start_copier(k);
     for (size_t n = k; n < end; n++)
@@ -271,33 +325,31 @@ void Teams::start_team(size_t k, uint64_t round) {
 }
 
 // Returns only in the first process.
-void Teams::start_filter(size_t k, uint64_t round) {
+void Teams::start_filter(size_t k) {
     Team &team = list[k];
     int number = int(k) + 1;
     const std::vector<int> files = { team.proof.read, team.stream, team.spare, record_folder };
     if (!begin(team.filter, "filter " + std::to_string(number), files)) return;
     raise_oom_score();
+    bool spares = has_windows() || inputs.options.may_be_resumed();
     Filtering filtering = { shared,
                             outboxes.data(),
                             number,
-                            filters_at_work(),
+                            filters(),
                             k % filters(),
                             hooked(test_hooks.window, WINDOW),
                             clauses,
-                            is_alone ? LOAD(engine_status(k).last) : 0,
-                            round,
+                            LOAD(shared->round),
                             team.proof.read,
                             team.stream,
                             team.spare,
                             record_folder,
-                            is_solver(k) ? UNKNOWN_FORM : SHARING_DRAT,
+                            is_solver(k) ? UNKNOWN_FORM : ENGINE_PROOF,
                             inputs.options.shares() && !is_solver(k),
                             cited.empty() ? nullptr : cited.data(),
                             inputs.assumed.data(),
                             inputs.assumed.size(),
-                            filters() > 1                     ? inputs.first_formula.clauses
-                            : inputs.options.may_be_resumed() ? inputs.formula.clauses
-                                                              : 0,
+                            spares ? inputs.formula.clauses : 0,
                             is_solver(k) ? Beginning{ UINT64_MAX, 0, 0, 1 } : beginning };
     filter_process(&filtering, &inputs.first_formula);
 }
@@ -376,7 +428,7 @@ void Teams::open_once(size_t k) {
 Proof Teams::proof_to_copy(size_t k) const {
     bool keeps = has_windows() && list[k].kept >= 0;
     Proof proof = { proof_of(k), list[k].once.read, list[k].kept, keeps, {} };
-    for (size_t n = k; n < k + filters_at_work(); n++) proof.pipes.push_back(list[n].proof.write);
+    for (size_t n = k; n < k + filters(); n++) proof.pipes.push_back(list[n].proof.write);
     return proof;
 }
 
@@ -541,9 +593,7 @@ Written Teams::written_of(size_t k) const {
     Written all = { LOAD(facts.bytes), LOAD(facts.other_hints) };
     uint64_t whole = whole_windows();
     bool is_next = !has_windows() || whole == LOAD(facts.window);
-    Written found = is_next ? all : facts.written[windows_among(whole, k) % WINDOWS_NOTED];
-    found.bytes = std::min(found.bytes, list[k].most_fed);
-    return found;
+    return is_next ? all : facts.written[windows_among(whole, k) % WINDOWS_NOTED];
 }
 
 void Teams::release() {
@@ -583,55 +633,14 @@ bool Teams::has_died(size_t k) const {
            LOAD(engine_status(found).stopped_at) == NO_STOP;
 }
 
-bool Teams::have_ended(size_t k, uint64_t round) const {
-    for (size_t n = first_of(k); n < first_of(k) + filters(); n++)
-        if (LOAD(engine_status(n).ended_round) != round) return false;
-    return true;
-}
-
 bool Teams::is_copied_no_more(size_t k) const {
     const Child &copier = copier_of(k);
     return copier.ended() && !copier.ended_with(0) && !copier.ended_with(UNSATISFIABLE);
 }
 
-bool Teams::can_restart(size_t k) const {
-    bool is_kept = list[k].kept >= 0 && !LOAD(engine_status(k).proof_unkept),
-         is_there = comes_once(k) ? is_kept : is_read_again(proof_of(k));
-    return is_there && !LOAD(engine_status(k).spilled);
-}
-
-// Call once all filters of the proof have ended. What lrupd may have got of their streams stays. If
-// they have ended between two rounds, the new filter begins with the second one.
-void Teams::start_alone(size_t k, uint64_t round) {
-    EngineStatus &facts = engine_status(k);
-    bool is_new = LOAD(shared->round) != round;
-    for (size_t n = k; n < k + filters(); n++) {
-        list[n].most_fed = is_new ? 0 : written_of(n).bytes;
-        STORE(engine_status(n).other_hints, 0);
-        STORE(engine_status(n).ended_round, round - 1);
-        STORE(engine_status(n).mapped_round, round - 1);
-    }
-    STORE(facts.bytes, list[k].most_fed);
-    list[k].most_fed = UINT64_MAX;
-    if (is_new) facts.last = facts.round_lines = facts.round_literals = 0;
-    is_alone = true;
-    awaits_one = false;
-    cut_stream(k, facts.bytes);
-    facts.cause[0] = 0;
-    facts.proof_ended = facts.has_steps = facts.needs_one = facts.refuted = 0;
-    facts.stopped_at = NO_STOP;
-    if (inputs.options.check) facts.stderr_end[0] = 0, STORE(facts.answer, 0);
-    start_team(k, round);
-}
-
-bool Teams::leave_next_to_one() {
-    if (!has_windows() || !can_restart(0)) return false;
-    end_filters(0);
-    for (Team &team : list) wait_for(team.filter);
-    wait_for(inputs.options.check ? list[0].engine : list[0].copier);
-    awaits_one = true;
-    number_streams();
-    return true;
+bool Teams::can_begin_again() const {
+    bool is_kept = list[0].kept >= 0 && !LOAD(engine_status(0).proof_unkept);
+    return has_windows() && (comes_once(0) ? is_kept : is_read_again(proof_of(0)));
 }
 
 bool Teams::end_filters(size_t k) {
@@ -641,6 +650,27 @@ bool Teams::end_filters(size_t k) {
         all_ended &= !list[n].filter.running;
     }
     return all_ended;
+}
+
+// Forgets all but a solver, and the proof as far as it is kept. What the solver's own process has
+// written stays, since that goes on; what copied the proof has ended, and is started again.
+void Teams::forget_filters() {
+    go_on();
+    for (size_t k = 0; k < list.size(); k++) {
+        EngineStatus &facts = engine_status(k);
+        close_file(list[k].stream);
+        close_file(list[k].spare);
+        close(facts.events.file);
+        memset(&facts.lines, 0, sizeof facts - offsetof(EngineStatus, lines));
+        if (inputs.options.check) facts.stderr_end[0] = 0, STORE(facts.answer, 0);
+        if (k > 0) list[0].filter.seconds += list[k].filter.seconds;
+    }
+    close(shared->events.file);
+    memset(shared, 0, offsetof(Shared, engine_statuses));
+    list.resize(1);
+    outboxes.clear();
+    lost.clear();
+    answered = 0;
 }
 
 // Streams.
@@ -661,7 +691,7 @@ std::vector<int> Teams::stream_files() const {
 void Teams::number_streams() {
     uint64_t count = 0;
     for (size_t k = 0; k < list.size(); k++) {
-        bool goes_on = awaits_one ? k == 0 : list[k].filter.running && k + 1 != shared->leaving;
+        bool goes_on = list[k].filter.running && k + 1 != shared->leaving;
         STORE(engine_status(k).stream, goes_on ? ++count : 0);
     }
     STORE(shared->streams, count);
@@ -673,7 +703,6 @@ void Teams::open_streams(uint64_t round) {
     for (size_t k = 0; k < list.size(); k++) {
         STORE(engine_status(k).fed, 0);
         STORE(engine_status(k).released, 0);
-        list[k].most_fed = UINT64_MAX;
         if (!inputs.options.proofs) cut_stream(k, 0);
         if (!inputs.options.proofs || !lost.empty()) continue;
         close_file(list[k].stream);

@@ -25,10 +25,9 @@ struct Team {
     signed char *model = nullptr;
     std::string command;  // a solver's, or the proof's name
     bool told = false, wrong = false, paused = false;
-    bool silent = false;             // its filter died before this round
-    bool idle = false;               // it ended as soon as it started, before doing anything
-    uint64_t most_fed = UINT64_MAX;  // bytes of its stream that count
-    std::string cause;               // why it was lost
+    bool silent = false;  // its filter died before this round
+    bool idle = false;    // it ended as soon as it started, before doing anything
+    std::string cause;    // why it was lost
 };
 
 class Teams {
@@ -57,7 +56,7 @@ class Teams {
     size_t decider(size_t k) const;
     // whether some of them have stopped, and others haven't yet
     bool are_stopping() const;
-    bool has_windows() const { return filters() > 1 && !is_alone && !awaits_one; }
+    bool has_windows() const { return filters() > 1; }
     // its path, or the solver's command
     const char *proof_of(size_t k) const {
         return inputs.options
@@ -104,17 +103,11 @@ class Teams {
     bool has_died(size_t k) const;
     // whether what copies the proof has failed, or was killed
     bool is_copied_no_more(size_t k) const;
-    bool can_restart(size_t k) const;
-    // the proof's first filter, which then takes the whole proof: now, or once `awaits_one` is set
-    // in the next round
-    void start_alone(size_t k, uint64_t round);
-    bool awaits_one = false;
+    bool can_begin_again() const;  // whether filters share a proof that can be read again
     // of this proof; true once they, and what copies the proof to them, have ended
     bool end_filters(size_t k);
-    // between two rounds: ends the filters of the only proof; false if one can't take it
-    bool leave_next_to_one();
-    bool have_ended(size_t k, uint64_t round) const;  // this round's streams of the proof
-    uint64_t clauses = 0;                             // of the round's formula
+    void forget_filters();  // of the only proof, once they have ended; `open` is next
+    uint64_t clauses = 0;   // of the round's formula
 
     std::string lost;                     // why the record is incomplete; empty: it isn't
     void check_record();                  // sets `lost`
@@ -132,15 +125,13 @@ class Teams {
   private:
     const Inputs &inputs;
     std::vector<Team> list;
-    bool is_alone = false;    // one filter has taken the whole proof
     double others_start = 0;  // 0: they have started
     Beginning beginning = {};
     std::vector<const char *> cited;  // proofs to check, if they are streams of one run
 
-    size_t filters_at_work() const { return is_alone ? 1 : filters(); }
     int size_of_pipes() const;
-    void start_team(size_t k, uint64_t round);
-    void start_filter(size_t k, uint64_t round);
+    void start_team(size_t k);
+    void start_filter(size_t k);
     void start_engine(size_t k);
     void start_copier(size_t k);
     uint64_t whole_windows() const;
@@ -158,7 +149,7 @@ class Teams {
     void open_in_memory(uint64_t round);
 };
 
-int half_of_the_cores();
+int usual_engines();
 int filters_of(const Options &options);                                // that share a proof
 void copy_name(char (&place)[LONGEST_PATH], const std::string &name);  // to the shared memory
 std::string name_of_round(uint64_t number);

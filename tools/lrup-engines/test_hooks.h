@@ -19,6 +19,8 @@
     NUMBER(window)      /* additions in a window of a filter that shares its proof */              \
     NUMBER(proof_kept)  /* bytes of a proof that comes only once that are kept at most */          \
     NUMBER(tries)       /* of lrupd */                                                             \
+    NUMBER(load)        /* the load of the last minute, in hundredths */                           \
+    NUMBER(running)     /* processes that run, with this one */                                    \
     NUMBER(packed_from) /* bytes of the shortest stream that is packed */                          \
     NUMBER(exchanging)  /* milliseconds between exchanges of processes */                          \
     NUMBER(last_gift)   /* the gift of engine 1 at which its filter dies, unflushed */             \

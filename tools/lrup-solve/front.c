@@ -8,14 +8,16 @@
 // No other process can bring about a wrong answer. The front opens the formula before it starts
 // anything, and gives that open file to both checkers, or a sealed copy of what a program of the
 // user's unpacked. The model is a file in memory: the front writes and seals it, has lrup-model
-// check it, and then prints it if it has nothing but values. The front starts each checker once,
-// and collects its exit status through a pidfd, opened while only the front can wait for that
-// child. Process ids are never compared, and orphans go to the supervisor. Only a checker's own
-// exit status and last line set `verdict`, in one place. No other process gets the front's standard
+// check it, and then prints it if it has nothing but values. The front starts lrup-model once, and
+// lrupd once more only in place of one that it has killed itself, without that one's output. It
+// collects each exit status through a pidfd, opened while only the front can wait for that child.
+// Process ids are never compared, and orphans go to the supervisor. Only a checker's own exit
+// status and last line set `verdict`, in one place. No other process gets the front's standard
 // output. From lrup-engines the front prints only comments, in ASCII. Lines on which this rests are
 // marked `trusted`; others can at worst prevent an answer. Other processes mustn't trace the front
 // or a checker, replace a checker, or write to the formula's file or the user's output
-// (docs/SECURITY.md). options.def, which the front includes, is a list of option names.
+// (docs/SECURITY.md). Of the files that the front includes, options.def is a list of option names,
+// and packers.h one of programs that unpack files.
 //
 // The front reads all words of its command line, and refuses wrong ones, before it starts anything.
 // lrup-engines gets the same words, and checks values that only it uses. It also gets a line for
@@ -29,6 +31,8 @@
 //     c WORDS      a comment
 //     refused      standard error says what can't be used: without an answer, the status is 1
 //     busy         after the verdict, the file of --core or --lrat is still being made
+//     over         kill lrupd, which isn't needed any more. The front says `over` once it has ended
+//                  without a verdict: a proof may be begun again, with another `check`
 #define _GNU_SOURCE
 #include <assert.h>
 #include <err.h>
@@ -51,7 +55,9 @@
 #include <sys/wait.h>
 #include <time.h>
 #include <unistd.h>
+#include "../lib/packers.h"
 #include "supervisor.h"
+#include "with_cadical.h"
 
 enum { BLOCK = 4096, MOST_STREAMS = 64, MOST_SIZE = 1 << 28, MOST_TRIES = 1000000 };
 enum { MOST_VARIABLES = 16777215, VALUES_ON_A_LINE = 10 };  // of the model
@@ -121,6 +127,7 @@ static FILE *model;                 // in memory: lines with a literal for each 
 static const char *checked_lines;   // of the model, once lrup-model has accepted them; NULL before
 static long values;                 // how many these are
 static bool is_whole, has_refused;  // the model; lrup-engines
+static bool is_over;                // lrupd was killed for lrup-engines
 static int ended_by;                // a signal; 0: none
 static int dev_null, signals_held;  // files
 static int to_engines[2], from_engines[2];  // pipes: the end to read, the end to write
@@ -135,14 +142,22 @@ static char *text(const char *format, ...) {
     return made;
 }
 
-// A word in a message: in quotes if a shell would need them, and without control bytes.
+// A word in a message: in quotes if a shell would need them, and with '?' for control characters.
+// Of these U+0080 to U+009F have two bytes, or just the second in other encodings than UTF-8.
 static const char *shown(const char *word) {
     static const char plain[] = "abcdefghijklmnopqrstuvwxyzABCDEFGHIJKLMNOPQRSTUVWXYZ0123456789"
                                 "-_./+=,:@%";
     bool is_plain = *word != 0 && word[strspn(word, plain)] == 0;
     char *made = text(is_plain ? "%s" : "'%s'", word);
-    for (char *at = made; *at != 0; at++)
-        if ((unsigned char)*at < ' ' || *at == 127) *at = '?';
+    char *end = made;
+    for (const char *at = made; *at != 0; at++) {
+        unsigned char byte = (unsigned char)*at;
+        unsigned char before = at > made ? (unsigned char)at[-1] : 0;
+        bool is_c1 = byte >= 128 && byte < 160 && (before < 128 || before == 0xc2);
+        if (is_c1 && before == 0xc2) end--;
+        *end++ = byte < ' ' || byte == 127 || is_c1 ? '?' : *at;
+    }
+    *end = 0;
     return made;
 }
 
@@ -153,7 +168,8 @@ static void take_file(const char *word) {
 }
 
 // Reads all words, and refuses those that no option and no file can be. lrup-check passes --check
-// as the first word. Option names can't be abbreviated.
+// as the first word. Option names can't be abbreviated. A value that begins with -- has to be in
+// the option's word, after =, so that an option whose value is missing doesn't take the next one.
 static void read_words(int count, char **words) {
     static const struct option list[] = {
 #define FLAG(place, name, code, alone) { name, 0, NULL, code },
@@ -173,9 +189,14 @@ static void read_words(int count, char **words) {
     while ((code = getopt_long(count, words, "-:j:qvh", list, &index)) != -1) {
         const char *name = index < 0 ? text("-%c", code) : text("--%s", list[index].name);
         bool is_abbreviated = index >= 0 && strcspn(words[at], "=") < strlen(name);
-        if (code == ':') errx(1, "no value after %s", shown(words[at]));  // trusted (no value)
+        bool is_next = optarg != NULL && optarg == words[at + 1];
+        if (code == ':' || (is_next && strncmp(optarg, "--", 2) == 0))
+            errx(1, "no value after %s", shown(words[at]));  // trusted (no value)
+        bool is_like_time =
+            strncmp(words[at], "--time", 6) == 0 || strncmp(words[at], "-t", 2) == 0;
+        const char *hint = is_like_time ? "did you mean --time?" : "--help lists them";
         if (code == '?' || is_abbreviated)
-            errx(1, "no such option: %s (--help lists them)", shown(words[at]));  // trusted (name)
+            errx(1, "no such option: %s (%s)", shown(words[at]), hint);  // trusted (name)
         if (code == FORMULA)
             take_file(optarg);  // trusted (word)
         else if (optarg != NULL && *optarg == 0)
@@ -194,7 +215,7 @@ static void show(void) {
     if (given[SHOW_HELP])
         printf("%s", is_check ? HELP_OF_CHECK : HELP);
     else
-        printf("%s %s\n", is_check ? "lrup-check" : "lrup-solve", VERSION);
+        puts(is_check ? "lrup-check " VERSION : "lrup-solve " VERSION WITH_CADICAL);
     if (fflush(stdout) != 0) err(1, "cannot write to standard output");
     exit(is_check ? 2 : 0);  // for lrup-check 0 would be a proof
 }
@@ -263,28 +284,25 @@ static const char *name_of(int file) { return text("%s/fd/%d", proc_self, file);
 // A sealed copy of what can't be read twice. lrupd accepts at most 2^28 literals and clauses. Each
 // needs at most ten bytes here, a sign, eight digits and a blank, unless there are more blanks or
 // comments. lrupd has no limit of bytes.
-static int copied(int file, const char *path) {
+static int copied(int file, const char *name) {
     static char bytes[1 << 16];
     int copy = memfd_create("lrup-solve", MFD_ALLOW_SEALING | MFD_CLOEXEC);
     long left = 10L << 28;
     ssize_t count;
     while ((count = read(file, bytes, sizeof bytes)) > 0 && (left -= count) >= 0)
-        if (write(copy, bytes, (size_t)count) != count) err(1, "cannot copy %s", path);
+        if (write(copy, bytes, (size_t)count) != count) err(1, "cannot copy %s", name);
     if (left < 0)
-        errx(1, "%s: more than 2684354560 bytes, which lrup-solve doesn't copy: give a file", path);
-    if (count < 0) err(1, "cannot read %s", path);
-    if (fcntl(copy, F_ADD_SEALS, SEALS) != 0) err(1, "cannot seal %s", path);  // trusted (copy)
+        errx(1, "%s: more than 2684354560 bytes, which lrup-solve doesn't copy: give a file", name);
+    if (count < 0) err(1, "cannot read %s", name);
+    if (fcntl(copy, F_ADD_SEALS, SEALS) != 0) err(1, "cannot seal %s", name);  // trusted (copy)
     return copy;
 }
 
 // The program that unpacks a file with this name; NULL: none.
 static const char *unpacker_of(const char *path) {
-    static const char *const known[][2] = {
-        { ".gz", "gzip" }, { ".xz", "xz" }, { ".bz2", "bzip2" }, { ".zst", "zstd" }
-    };
     const char *ending = strrchr(path, '.');
-    for (size_t k = 0; ending != NULL && k < sizeof known / sizeof *known; k++)
-        if (strcmp(ending, known[k][0]) == 0) return known[k][1];
+    for (size_t k = 0; ending != NULL && k < PACKED_FORMS; k++)
+        if (strcmp(ending, PACKED[k].ending) == 0) return PACKED[k].program;
     return NULL;
 }
 
@@ -304,26 +322,27 @@ static int unpacked(int file, const char *path, const char *program) {
     if (child == 0) {
         if (prctl(PR_SET_PDEATHSIG, SIGKILL) != 0 || getppid() != parent) _exit(127);
         signal(SIGPIPE, SIG_DFL);
+        packers_forget_options();
         if (dup2(file, 0) == 0 && dup2(ends[1], 1) == 1) execv(found, (char **)words);
         _exit(127);
     }
     if (close(ends[1]) != 0) err(1, "cannot close a pipe");  // or reading it never ends
-    int copy = copied(ends[0], path);
+    int copy = copied(ends[0], shown(path));
     bool is_right = waitpid(child, &status, 0) == child && status == 0;
     if (!is_right) errx(1, "%s: %s can't unpack it", shown(path), program);  // trusted (unpacked)
     return copy;
 }
 
-// If a path can't be opened, lrup-engines says why.
+// If a path can't be opened, lrup-engines says why, by the number of the error.
 static const char *open_input(const char *path) {
     struct stat found;
     bool is_standard = strcmp(path, "-") == 0;
     int file = is_standard ? STDIN_FILENO : open(path, O_RDONLY | O_CLOEXEC);
-    if (file < 0 || fstat(file, &found) != 0) return name_of(-1);
+    if (file < 0 || fstat(file, &found) != 0) return name_of(-errno);
     const char *program = unpacker_of(path);
     if (program != NULL && !S_ISDIR(found.st_mode)) return name_of(unpacked(file, path, program));
     bool is_read_again = S_ISREG(found.st_mode) || S_ISDIR(found.st_mode);
-    return name_of(is_read_again && !is_standard ? file : copied(file, path));
+    return name_of(is_read_again && !is_standard ? file : copied(file, shown(path)));
 }
 
 static long now(void) {
@@ -375,6 +394,7 @@ struct request {
 // An option and its value are one word, so that no value can be taken for the formula.
 static void start_lrupd(const struct request *request) {
     const char *folder = text("/proc/%lu/fd/%lu", request->pid, request->file);
+    int output = children[LRUPD].output;
     const char *words[MOST_STREAMS + 16] = { lrupd };
     size_t count = 1;
     words[count++] = text("--tries=%lu", request->tries);
@@ -386,7 +406,15 @@ static void start_lrupd(const struct request *request) {
     words[count++] = formula;  // trusted (formula): before the streams
     for (unsigned long k = 1; k <= request->streams; k++)
         words[count++] = text("%s/round-1.stream-%lu", folder, k);
-    start(LRUPD, words, dev_null, children[LRUPD].output, children[LRUPD].output);
+    if (lseek(output, 0, SEEK_SET) != 0) err(1, "cannot begin lrupd's output again");
+    if (ftruncate(output, 0) != 0) err(1, "cannot empty lrupd's output");  // trusted (emptied)
+    start(LRUPD, words, dev_null, output, output);
+}
+
+// lrup-engines doesn't need this lrupd any more, and may request another one.
+static void end_lrupd(void) {
+    is_over = is_running(LRUPD);
+    signal_group(LRUPD, SIGKILL);
 }
 
 // Reads a blank and a number within this range, and moves behind both.
@@ -401,8 +429,8 @@ static bool read_number(const char **line, unsigned long least, unsigned long mo
     return errno == 0 && least <= *number && *number <= most;
 }
 
-// Only numbers within their ranges reach lrupd's command line. Any other request, or a second one,
-// ends the run.
+// Only numbers within their ranges reach lrupd's command line. Any other request, or one for an
+// lrupd beside or after another one that `over` didn't end, ends the run.
 static void handle_request(const char *words) {
     struct request request;
     bool is_right = read_number(&words, 1, MOST_STREAMS, &request.streams) &&
@@ -445,9 +473,10 @@ static bool read_line(void) {
     if (read(from_engines[0], line, BLOCK) <= 0) return false;
     if (strncmp(line, "check", 5) == 0) handle_request(line + 5);
     if (strncmp(line, "v ", 2) == 0 && !is_whole) take_signs(line + 2);
-    if (strcmp(line, "model") == 0) is_whole = true;
+    if (strcmp(line, "model") == 0) is_whole = !is_check;  // lrup-check takes none
     if (strncmp(line, "c ", 2) == 0) print_comment(line + 2);
     if (strcmp(line, "refused") == 0) has_refused = true;
+    if (strcmp(line, "over") == 0) end_lrupd();
     if (strcmp(line, "busy") == 0 && verdict && given[CORE_OR_LRAT] && !ended_by)
         deadline = least(run_ends, now()) + GRACE;
     return true;
@@ -500,9 +529,13 @@ static void collect_end(enum which which) {
     child->handle = -1;
     for (size_t k = 0; k < VERDICTS; k++)
         if (verdicts[k].checker == which) set_verdict(&verdicts[k]);
-    if (which == LRUPD) stop_solving_within(GRACE);
     if (which == LRUP_MODEL && verdict == NULL) explain_model();
-    dprintf(to_engines[1], "%s %d %d\n", child->name, child->end.si_code, child->end.si_status);
+    bool may_be_next = which == LRUPD && is_over && verdict == NULL;  // another lrupd
+    if (may_be_next) child->pid = 0;
+    if (may_be_next) is_over = false;
+    if (which == LRUPD && !may_be_next) stop_solving_within(GRACE);
+    dprintf(to_engines[1], "%s %d %d\n", may_be_next ? "over" : child->name, child->end.si_code,
+            child->end.si_status);
 }
 
 static void handle_signal(void) {
@@ -544,6 +577,8 @@ static void solve(void) {
     for (int k = 0; k < 1000 && read_line(); k++) {}  // not for ever
     if (is_running(SUPERVISOR) && verdict && given[CORE_OR_LRAT])
         print_comment("the file of --core or --lrat is missing: lrup-engines is late");
+    if (is_running(SUPERVISOR) && !verdict && !is_whole)
+        print_comment("no answer: lrup-engines is late");
     is_solving = false;
 }
 

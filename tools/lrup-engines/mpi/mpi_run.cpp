@@ -48,7 +48,7 @@ int solve(int count, char **words) {
     Options options = read_words(count, words);
     if (!front.is_there()) refuse("this program has to be started by lrup-solve --mpi");
     start_by_mpi(options, count, words);
-    if (options.engines == 0) options.engines = half_of_the_cores();
+    if (options.engines == 0) options.engines = usual_engines();
     Link link;
     link.open(options.engines);
     int all = 0;
