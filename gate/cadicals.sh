@@ -47,7 +47,7 @@ END
 }
 
 # The program that was made for a newer C library doesn't run. Another one takes its place, with the
-# same library, for what benches and tests call: cadical [-q] [--OPTION..] FORMULA [PROOF].
+# same library, for what benches and tests call: cadical [-q] [-n] [--OPTION..] FORMULA [PROOF].
 replace_program() {
     "$program" --version > /dev/null 2>&1 && return 0
     cat > "$work/cadical.cpp" << 'END'
@@ -59,10 +59,13 @@ replace_program() {
 int main(int count, char **words) {
     CaDiCaL::Solver solver;
     std::vector<const char *> files;
+    bool prints_values = true;
     solver.set("report", 1);
     for (int k = 1; k < count; k++)
         if (words[k][0] != '-')
             files.push_back(words[k]);
+        else if (strcmp(words[k], "-n") == 0)
+            prints_values = false;
         else if (strcmp(words[k], "-q") == 0 ? !solver.set("quiet", 1)
                                              : !solver.set_long_option(words[k]))
             return 1;
@@ -72,9 +75,10 @@ int main(int count, char **words) {
     if (fault) return fprintf(stderr, "cadical: %s\n", fault), 1;
     int status = solver.solve();
     puts(status == 10 ? "s SATISFIABLE" : status == 20 ? "s UNSATISFIABLE" : "s UNKNOWN");
-    for (int variable = 1; status == 10 && variable <= variables; variable++)
+    prints_values &= status == 10;
+    for (int variable = 1; prints_values && variable <= variables; variable++)
         printf("v %d\n", solver.val(variable) > 0 ? variable : -variable);
-    if (status == 10) puts("v 0");
+    if (prints_values) puts("v 0");
     if (files.size() > 1) solver.close_proof_trace();
     return status;
 }

@@ -1,7 +1,8 @@
 #!/usr/bin/env python3
 """Compares lrup-check with one and with several filters, and prints a table in Markdown.
 
-    check.py [--rounds N] [--filters 1,2,4] [--formulas 'commute 8,sort 7 4'] CHECK LRUPD
+    check.py [--rounds N] [--filters 1,2,4] [--formulas 'commute 8,sort 7 4']
+             [--solver 'cadical -q --lrat'] CHECK LRUPD
 
 CaDiCaL writes a proof of each formula, which is then checked with each number of filters in turn,
 on the same cores. The shortest time by the clock counts, and the least processor time. The last
@@ -26,14 +27,14 @@ def processor_seconds() -> float:
     return used.ru_utime + used.ru_stime
 
 
-def proof_of(words: str, folder: Path) -> Tuple[Path, Path, float]:
+def proof_of(words: str, solver: str, folder: Path) -> Tuple[Path, Path, float]:
     """The files of the formula and its proof, and the seconds by the clock that CaDiCaL took."""
     formula, proof = folder / "formula", folder / "proof"
     with formula.open("w") as file:
         subprocess.run([sys.executable, str(HERE / "formulas.py"), *words.split()], stdout=file,
                        check=True)
     began = time.monotonic()
-    subprocess.run(["cadical", "-q", "-n", str(formula), str(proof)], check=False,
+    subprocess.run([*solver.split(), str(formula), str(proof)], check=False,
                    stdout=subprocess.DEVNULL)
     return formula, proof, time.monotonic() - began
 
@@ -53,6 +54,7 @@ def main() -> None:
     parser.add_argument("--rounds", type=int, default=3)
     parser.add_argument("--filters", default="1,2,4")
     parser.add_argument("--formulas", default=",".join(FORMULAS))
+    parser.add_argument("--solver", default="cadical -q")
     parser.add_argument("check")
     parser.add_argument("lrupd")
     given = parser.parse_args()
@@ -63,7 +65,7 @@ def main() -> None:
     rows: List[List[float]] = []
     for words in given.formulas.split(","):
         with tempfile.TemporaryDirectory() as folder:
-            formula, proof, solving = proof_of(words, Path(folder))
+            formula, proof, solving = proof_of(words, given.solver, Path(folder))
             clock: Dict[str, float] = {}
             used: Dict[str, float] = {}
             for _ in range(given.rounds):

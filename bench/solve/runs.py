@@ -126,7 +126,7 @@ class Bench:
 
     def command(self, path: str, engines: int) -> List[str]:
         if engines == ALONE:
-            return ["cadical", "-q", "-n", "-t", str(self.limit), path]
+            return ["timeout", str(self.limit), "cadical", "-q", "-n", path]
         return [self.solve, "--lrupd", self.lrupd, "-v", "-j", str(engines), "--time",
                 str(self.limit), path]
 

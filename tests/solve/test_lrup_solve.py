@@ -70,12 +70,14 @@ def test_a_satisfiable_formula(options: List[str], tmp_path: Path) -> None:
     (1, 9, 0), (49, 9, 0), (50, 9, 1), (149, 9, 1), (150, 9, 2), (800, 1, 0), (800, 2, 1),
     (800, 3, 2), (800, 9, 8)])
 def test_usual_engines(load: int, running: int, busy: int) -> None:
-    """Half of the free cores: the load of the last minute, rounded, isn't free, unless fewer other
-    processes run."""
-    answer = solve([example("bmc.cnf")], tested={"LOAD": load, "RUNNING": running})
+    """Half of the free cores, or three quarters if CaDiCaL gives hints: the load of the last
+    minute, rounded, isn't free, unless fewer other processes run."""
+    answer = solve(["-v", example("bmc.cnf")], tested={"LOAD": load, "RUNNING": running})
     want_answer(answer, 20)
-    engines = max(1, (len(os.sched_getaffinity(0)) - busy) // 2)
-    assert re.search(rf" s, {engines} engines?, ", answer.comments[-1]), answer.out
+    free = len(os.sched_getaffinity(0)) - busy
+    has_hints = "which gives hints" in answer.out
+    engines = max(1, (3 * free + 2) // 4 if has_hints else free // 2)
+    assert re.search(rf" s, {engines} engines?, ", answer.out), answer.out
 
 
 @pytest.mark.parametrize("attempt", range(5))

@@ -54,9 +54,13 @@ static int count_free_cores() {
     return count_cores() - int(std::min(std::lround(load), long(running) - 1));
 }
 
-static int half_of(int cores) { return std::clamp(cores / 2, 1, int(MOST_ENGINES)); }
+// A filter works about as hard as its engine, unless CaDiCaL gives hints.
+static int engines_on(int cores) {
+    int engines = engines_have_hints ? (3 * cores + 2) / 4 : cores / 2;
+    return std::clamp(engines, 1, int(MOST_ENGINES));
+}
 
-int usual_engines() { return half_of(count_free_cores()); }
+int usual_engines() { return engines_on(count_free_cores()); }
 
 // The first bytes of a proof, unpacked; fewer if it can't be read, or only once.
 static std::string head_of(const std::string &path) {
@@ -299,7 +303,7 @@ double Teams::next_start() const {
 // If there are fewer cores than processes, pipes are small: an engine far ahead of its filter would
 // take cores from others, and its proof would come late.
 int Teams::size_of_pipes() const {
-    bool is_crowded = filters() == 1 && shared->engines_here > half_of(count_cores());
+    bool is_crowded = filters() == 1 && shared->engines_here > engines_on(count_cores());
     return is_crowded ? CROWDED_PIPE
                       : std::min(PROOF_PIPE, ALL_PROOF_PIPES / inputs.options.engines);
 }
