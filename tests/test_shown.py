@@ -3,9 +3,9 @@ examples' scripts with wrong arguments, files and answers.
 
 A command comes after '$ ' in a block that is indented by four spaces or more. If its line ends with
 a backslash, a bar or '&&', it continues on the next one. The text below it is the expected output,
-including standard error: a line '..' stands for any lines, and in a line with lrup-solve's times,
-each number stands for any other. If there is no text, any output is fine. Some commands aren't run,
-since they would prove the program: see NOT_RUN."""
+including standard error: a line '..' stands for any lines, and in a line that begins with
+lrup-solve's time, each number stands for any other. If there is no text, any output is fine. Some
+commands aren't run, since they would prove the program: see NOT_RUN."""
 import os
 import re
 import shutil
@@ -34,7 +34,9 @@ PAGES: List[Tuple[str, List[str], List[str]]] = [
     ("examples/smt/README.md", [], ["python3-z3"]),
     ("examples/cubes/README.md", [], []),
     ("examples/fifo/README.md", [], ["yosys"]),
+    ("examples/cbmc/README.md", [], []),
 ]
+CBMC = ROOT / "tests" / "support" / "cbmc.sh"   # where there is no CBMC
 
 
 class Command(NamedTuple):
@@ -78,7 +80,7 @@ def timed(line: str) -> str:
 
 
 def is_timed(line: str) -> bool:
-    return re.match(r"c [\d,.]+ s, .* of processor time", line) is not None
+    return re.match(r"c [\d,.]+ s(: |, .* of processor time)", line) is not None
 
 
 @pytest.mark.usefixtures("lrup_solve")
@@ -102,6 +104,8 @@ def test_page(program: str, model: str, name: str, files: Sequence[str], package
     (tmp_path / "bin").mkdir()
     for path in [SOLVE, SOLVE.with_name("lrup-check"), FILTER, TRIM, EXPLAIN, LRUP_RECHECK]:
         os.symlink(path, tmp_path / "bin" / path.name)
+    if not shutil.which("cbmc"):
+        os.symlink(CBMC, tmp_path / "bin" / "cbmc")
     os.symlink(program, tmp_path / "bin" / "lrupd")
     os.symlink(model, tmp_path / "bin" / "lrup-model")
     commands = [command for command in commands_of(ROOT / name) if command.text not in NOT_RUN]
@@ -132,15 +136,17 @@ USAGES: List[Tuple[str, str, List[List[str]]]] = [
     ("smt/smt2cnf.py", "smt2cnf.py PROBLEM.smt2 > FORMULA.cnf", [[], ["one", "two"]]),
     ("lemma/lemma.py", "lemma.py WIDTH LEMMA",
      [[], ["8"], ["0", "a <= b"], ["x", "a <= b"], ["8", "a <= b", "c"]]),
-    ("show.awk", "show.awk FORMULA ANSWER|CORE",
+    ("show.awk", "show.awk FORMULA ANSWER [TRACE.vcd] | show.awk FORMULA CORE",
      [[], ["formula.cnf"], ["formula.cnf", "answer", "more"]]),
     ("acl2.py", "acl2.py [--stobj] FORMULA PROOF",
      [[], ["--stobj", "f"], ["f"], ["f", "p", "x"]]),
-    ("miter/miter.sh", "miter.sh FILE.v FORMULA", [[], ["x.v"]]),
-    ("fifo/bmc.sh", "bmc.sh [--induction] FILE.v DEPTH FORMULA, with 2 or more steps for DEPTH",
+    ("miter/miter.sh", "miter.sh FILE FORMULA", [[], ["x.v"]]),
+    ("fifo/bmc.sh", "bmc.sh [--induction] FILE DEPTH FORMULA | bmc.sh --to DEPTH FILE FORMULA CUBES"
+     ", with 2 or more steps for DEPTH",
      [[], ["x.v", "5"], ["x.v", "x", "f"], ["x.v", "", "f"], ["x.v", "0", "f"],
       ["x.v", "5", "f", "g"], ["x.v", "-5", "f"], ["x.v", "1", "f"], ["--induction", "x.v", "5"],
-      ["--induction", "x.v", "1", "f"]]),
+      ["--induction", "x.v", "1", "f"], ["--to", "5", "x.v", "f"], ["--to", "1", "x.v", "f", "c"],
+      ["--to", "x", "x.v", "f", "c"], ["--to", "5", "x.v", "f", "c", "g"]]),
     ("cubes/waerden.py", "waerden.py K L N, with 2 or more for K and L",
      [[], ["3", "3"], ["3", "1", "9"], ["3", "x", "9"]]),
     ("cubes/split.py", "split.py COUNT FORMULA",
@@ -156,6 +162,14 @@ USAGES: List[Tuple[str, str, List[List[str]]]] = [
 def test_usage(script: str, usage: str, words: Sequence[str], tmp_path: Path) -> None:
     done = run([EXAMPLES / script, *words], b"", cwd=tmp_path)
     assert done == Ran("", f"usage: {usage}\n", 2)
+
+
+@pytest.mark.parametrize("script, usage", [
+    pytest.param(script, usage, id=script) for script, usage, _ in USAGES
+    if not script.endswith(".awk")])    # awk itself takes the option
+def test_help(script: str, usage: str, tmp_path: Path) -> None:
+    done = run([EXAMPLES / script, "--help"], b"", cwd=tmp_path)
+    assert done == Ran(f"usage: {usage}\n", "", 0)
 
 
 def want_refused(script: str, words: Sequence[object], said: str, folder: Path,
@@ -177,6 +191,54 @@ def test_show_refuses_an_answer(answer: bytes, tmp_path: Path) -> None:
     want_refused("show.awk", [formula, "-"],
                  "the answer isn't s SATISFIABLE with an assignment of this formula", tmp_path,
                  answer)
+
+
+def test_show_reads_names_of_words(tmp_path: Path) -> None:
+    """The bits follow one name, as CBMC writes them; no core has a constant."""
+    formula = written("p cnf 4 3\n1 0\n-2 3 0\n-3 0\nc x!0@1#2 1 -2 FALSE 3 TRUE\nc y TRUE\n"
+                      "c z[0] 4\nc z[1] -4\n", tmp_path)
+    answer = written("s SATISFIABLE\nv 1 -2 -3 4 0\n", tmp_path, "answer")
+    assert (output_of(run([EXAMPLES / "show.awk", formula, answer])) ==
+            "x!0@1#2 = 5'b10011\ny = 1'b1\nz = 2'b01\n")
+    core = written("p cnf 4 1\nc id 2\n-2 3 0\n", tmp_path, "core")
+    assert output_of(run([EXAMPLES / "show.awk", formula, core])) == "x!0@1#2\n"
+
+
+def test_show_writes_a_trace(tmp_path: Path) -> None:
+    """A VCD file: only changes; instances as scopes; x for a bit, or a step, without a name."""
+    formula = written("p cnf 3 1\nc in@1[1] 1\nc in@2[1] 1\nc a.b.c@2 -2\nc a.b.c@3 2\n"
+                      "c other 3\n-2 1 0\n", tmp_path)
+    answer = written("s SATISFIABLE\nv 1 2 -3 0\n", tmp_path, "answer")
+    trace = tmp_path / "trace.vcd"
+    assert run([EXAMPLES / "show.awk", formula, answer, trace]) == Ran("", "", 0)
+    assert trace.read_text() == """$timescale 1 ns $end
+$scope module top $end
+$var wire 2 ! in [1:0] $end
+$scope module a $end
+$scope module b $end
+$var wire 1 " c $end
+$upscope $end
+$upscope $end
+$upscope $end
+$enddefinitions $end
+#1
+b1x !
+x"
+#2
+0"
+#3
+bx !
+1"
+#4
+"""
+    assert "in@1 = 2'b1x\n" in output_of(run([EXAMPLES / "show.awk", formula, answer]))
+
+
+def test_show_refuses_a_trace_without_steps(tmp_path: Path) -> None:
+    write_all({"formula": "p cnf 1 1\nc a 1\n1 0\n", "answer": "s SATISFIABLE\nv 1 0\n"}, tmp_path)
+    want_refused("show.awk", ["formula", "answer", "trace.vcd"],
+                 "the formula has no comments with steps, 'c NAME@STEP LITERAL'", tmp_path)
+    assert not (tmp_path / "trace.vcd").exists()
 
 
 @pytest.mark.parametrize("text", [
@@ -235,7 +297,9 @@ def test_smt2cnf_without_a_file(tmp_path: Path) -> None:
 @pytest.mark.parametrize("text, lines", [
     (f"{WORD}(assert (= (bvadd x #x01) x))", ["p cnf 1 2", "1 0", "-1 0"]),
     (f"{TRUTH}(assert false)", ["p cnf 1 2", "1 0", "-1 0"]),
-    (f"{TRUTH}(assert (not p))", ["p cnf 1 1", "c p 1", "-1 0"])])
+    (f"{TRUTH}(assert (not p))", ["p cnf 1 1", "c p 1", "-1 0"]),
+    ("(declare-fun p () Bool)(assert (not p))(check-sat)(get-model)(exit)",
+     ["p cnf 1 1", "c p 1", "-1 0"])])
 def test_smt2cnf_writes_a_formula(text: str, lines: Sequence[str], tmp_path: Path) -> None:
     made = run([EXAMPLES / "smt" / "smt2cnf.py", written(text, tmp_path)])
     assert output_of(made).splitlines() == lines
@@ -248,9 +312,9 @@ LEMMAS = [(text, f"a LEMMA can't have {refused}: the top of lemma.py says what i
               ('both(a < b, open("ran", "w"))', "open('ran', 'w')"),
               ("a.__class__ == b", "a.__class__"),
               ("(lambda: a < b)()", "(lambda: a < b)()"), ("[a < b][0]", "[a < b][0]"),
-              ("a <= e", "e"), ("a <= b <= c", "a <= b <= c"), ("a != b", "a != b"),
+              ("a <= e", "e"), ("a <= b <= c", "a <= b <= c"), ("a is b", "a is b"),
               ("a < b and b < c", "a < b and b < c"), ("not a < b", "not a < b"),
-              ("a * b == c", "a * b"), ("a > b", "a > b"), ("-a == b", "-a"), ("a == 1.0", "1.0"),
+              ("a * b == c", "a * b"), ("a in b", "a in b"), ("-a == b", "-a"), ("a == 1.0", "1.0"),
               ("a == True", "True"), ("when(a < b)", "when(a < b)"), ("both(*a)", "both(*a)"))]
 LEMMAS += [
     ("a == 256", "256 has more than 8 bits"),
@@ -296,9 +360,8 @@ def test_refused_circuits(script: str, words: Sequence[str], text: str, said: st
 
 
 @pytest.mark.parametrize("text, what", [
-    (b"(define (domain d) (:predicates (p ?x - t)))", "PDDL with types"),
-    (b"(define (domain d) (:requirements :strips :typing))", "PDDL with types"),
-    (b"(define (domain d) (:types t))", "PDDL with types"),
+    (b"(define (domain d) (:action a :parameters (?x - (either s t)) :effect (p ?x)))", "either"),
+    (b"(define (domain d) (:requirements :negative-preconditions))", "not in preconditions"),
     (b"(define (domain d) (:requirements :equality))", "equality"),
     (b"(define (domain d) (:action a :precondition (not (= ?x ?y))))", "equality"),
     (b"(define (domain d) (:action a :precondition (or (p) (q))))", "more than conjunctions"),
@@ -306,7 +369,34 @@ def test_refused_circuits(script: str, words: Sequence[str], text: str, said: st
     (b"(define (domain d) (:requirements :adl))", "more than conjunctions")])
 def test_plan_refuses_a_domain(text: bytes, what: str, tmp_path: Path) -> None:
     want_refused("planning/plan.py", ["/dev/stdin", PROBLEM, "3"],
-                 f"/dev/stdin: {what} isn't supported, only STRIPS", tmp_path, text)
+                 f"/dev/stdin: {what} isn't supported, only STRIPS and types", tmp_path, text)
+
+
+TYPED = """(define (domain d) (:types van lorry - vehicle vehicle - object place - place)
+  (:constants depot - place)
+  (:action drive :parameters (?v - vehicle ?from ?to - place)
+    :precondition (and (at ?v ?from)) :effect (and (at ?v ?to) (not (at ?v ?from))))
+  (:action load :parameters (?v - van ?any) :effect (full ?v ?any)))
+"""
+JOURNEY = """(define (problem p) (:domain d) (:objects v - van l - lorry town - place what)
+  (:init (at v depot)) (:goal (and (at v town) (full v what))))
+"""
+
+
+def test_plan_reads_types(tmp_path: Path) -> None:
+    """Parameters range over objects and constants of their types, of types below these, and without
+    a type over all."""
+    write_all({"domain": TYPED, "problem": JOURNEY}, tmp_path)
+    made = run([EXAMPLES / "planning" / "plan.py", "domain", "problem", "2"], cwd=tmp_path)
+    names = re.findall(r"^c (\S+)@1 ", output_of(made), re.M)
+    places = ["depot,depot", "depot,town", "town,depot", "town,town"]
+    assert sorted(names) == [*(f"drive({one},{two})" for one in "lv" for two in places),
+                             *(f"load(v,{one})" for one in ("depot", "l", "town", "v", "what"))]
+    needs("cadical")
+    for steps, status in ((1, 20), (2, 10)):
+        made = run([EXAMPLES / "planning" / "plan.py", "domain", "problem", steps], cwd=tmp_path)
+        formula = written(output_of(made), tmp_path)
+        assert run(["cadical", "-q", formula]).status == status
 
 
 @pytest.mark.parametrize("words, given, cause", [
@@ -315,6 +405,10 @@ def test_plan_refuses_a_domain(text: bytes, what: str, tmp_path: Path) -> None:
                  id="no file"),
     pytest.param([DOMAIN, "/dev/stdin"], b"(define (problem empty))",
                  "DOMAIN or PROBLEM can't be read: ':init'", id="no init"),
+    pytest.param([DOMAIN, "/dev/stdin"],
+                 b"(define (problem p) (:objects a) (:init (p a)) (:goal (not (room a))))",
+                 "not in preconditions and goals isn't supported, only STRIPS and types",
+                 id="a goal with not"),
     pytest.param([PROBLEM, DOMAIN], b"", f"{PROBLEM}: not a domain in PDDL", id="swapped"),
     pytest.param([DOMAIN, DOMAIN], b"", f"{DOMAIN}: not a problem in PDDL", id="two domains"),
     pytest.param([DOMAIN, "/dev/null"], b"", "/dev/null: not a problem in PDDL", id="nothing")])

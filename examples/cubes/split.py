@@ -4,8 +4,9 @@
     split.py COUNT FORMULA > CUBES
 
 There are at least COUNT cubes, unless the formula has too few variables. Cubes that unit
-propagation refutes are left out, since any solver refutes them, too. Look-ahead splitters such as
-march_cu make better cubes, in the same form."""
+propagation refutes are left out, since any solver refutes them, too; if none is left, the empty one
+stands for the whole formula. Look-ahead splitters such as march_cu make better cubes, in the same
+form."""
 import sys
 from collections import Counter
 from typing import Dict, List, Optional, Set
@@ -73,9 +74,11 @@ def split(formula: Formula, count: int) -> List[List[int]]:
 
 def main(words: List[str]) -> int:
     if len(words) != 2 or not words[0].isdigit():
-        print("usage: split.py COUNT FORMULA", file=sys.stderr)
-        return 2
-    for cube in split(Formula(read(words[1])), int(words[0])):
+        is_asked = words == ["--help"]
+        print("usage: split.py COUNT FORMULA",
+              file=sys.stdout if is_asked else sys.stderr)
+        return 0 if is_asked else 2
+    for cube in split(Formula(read(words[1])), int(words[0])) or [[]]:
         print("a", *cube, 0)
     return 0
 

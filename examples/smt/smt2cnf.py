@@ -31,7 +31,7 @@ def commands(text):
     for token in re.findall(r';.*|"[^"]*"|\|[^|]*\||[()]|[^\s()";|]+', text):
         if not token.startswith(";"):
             depth += {"(": 1, ")": -1}.get(token, 0)
-            if depth == 1 and last == "(":
+            if depth == 1 and last == "(" and token != ")":     # not the end of an empty list
                 yield token
             last = token
 
@@ -127,9 +127,11 @@ def formula(text):
 
 
 def main(words):
-    if len(words) != 1:
-        print("usage: smt2cnf.py PROBLEM.smt2 > FORMULA.cnf", file=sys.stderr)
-        return 2
+    if len(words) != 1 or words == ["--help"]:
+        is_asked = words == ["--help"]
+        print("usage: smt2cnf.py PROBLEM.smt2 > FORMULA.cnf",
+              file=sys.stdout if is_asked else sys.stderr)
+        return 0 if is_asked else 2
     try:
         with open(words[0], encoding="utf-8") as file:
             text = file.read()

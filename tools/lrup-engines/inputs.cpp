@@ -77,15 +77,29 @@ void Inputs::find() {
     for (const std::string &path : inputs) check_input(path);
     if (options.resumed)
         find_again(inputs);
-    else if (options.proofs)
+    else if (options.proofs) {
+        if (is_numbered(options.proofs)) {
+            numbered = make_numbered(options.proofs);
+            options.record = options.proofs = numbered.c_str();
+        }
         open_record(options.proofs, inputs, options.replace);
+    }
     formula_path = rereadable_path(inputs[0], front.formula);
     if (options.assume) assume_path = rereadable_path(inputs[1], front.assumptions);
 }
 
-// Copies the front's copy of an input into the record.
-std::string Inputs::begin_copy(const std::string &path, const char *kept_as) const {
+// Whether the record gets a copy of this input: of one that the front has copied, since it can't be
+// read again; with --with-formula of any, unless the record has it already.
+bool Inputs::is_copied(const std::string &path, const std::string &fronts,
+                       const char *kept_as) const {
+    const std::string copied = std::string(options.proofs) + "/" + kept_as;
+    return path == fronts ||
+           (options.with_formula && std::count(copies.begin(), copies.end(), copied) == 0);
+}
+
+std::string Inputs::begin_copy(const std::string &path, const char *kept_as) {
     std::string copied = std::string(options.proofs) + "/" + kept_as;
+    copies.push_back(copied);
     int file = open_input(path), copy = create_file(unfinished(copied));
     copy_file(file, kept_as, copy);
     close(file);
@@ -100,8 +114,9 @@ static void end_copy(const std::string &copied) {
 
 void Inputs::keep() {
     if (!options.proofs) return;
-    bool has_formula = formula_path == front.formula,
-         has_assumptions = options.assume && assume_path == front.assumptions;
+    bool has_formula = is_copied(formula_path, front.formula, COPY_OF_FORMULA),
+         has_assumptions =
+             options.assume && is_copied(assume_path, front.assumptions, COPY_OF_ASSUMPTIONS);
     if (has_formula) formula_path = begin_copy(formula_path, COPY_OF_FORMULA);
     if (has_assumptions) assume_path = begin_copy(assume_path, COPY_OF_ASSUMPTIONS);
     if (has_formula) end_copy(formula_path);
@@ -239,16 +254,25 @@ void Inputs::read_assumptions() {
 // Reads iCNF, and skips a header, comments and clauses. Cubes aren't trusted, so no spelling that
 // makes sense is refused.
 void Inputs::read_cubes() {
-    std::string name = title(options.cubes), line;
+    std::string name = title(options.cubes), line, before;
     check_plain(options.cubes, name);
     std::ifstream file(options.cubes);
     bool has_cube = false;
-    for (uint64_t number = 1; std::getline(file, line); number++)
+    for (uint64_t number = 1; std::getline(file, line); number++, before = line) {
         if (!read_cube(line, has_cube))
             refuse(name + ", line " + std::to_string(number) +
                    ": not a cube of the formula's literals, like 'a 1 -2 0'");
+        if (cube_names.size() < cubes.size()) name_cube(before);
+    }
     if (file.bad()) refuse("cannot read " + name + ": " + error_text());
     if (!has_cube) refuse(name + ": no cube: no line is like 'a 1 -2 0'");
+}
+
+// The last cube has the name in a comment on the line before it.
+void Inputs::name_cube(const std::string &before) {
+    bool has_name = before.size() > 2 && before.compare(0, 2, "c ") == 0;
+    cube_names.push_back(has_name ? before.substr(2)
+                                  : "cube " + std::to_string(cube_names.size() + 1));
 }
 
 // False if the line can't belong to an iCNF file.

@@ -9,6 +9,7 @@
 #include <cstring>
 
 #include "options.h"
+#include "record.h"
 #include "solve.h"
 #include "with_cadical.h"
 
@@ -122,12 +123,14 @@ void read_values(Options &options) {
     options.proofs = given.proofs;
     options.assume = given.assume;
     options.cubes = given.cubes;
+    options.in_order = given.cubes_in_order;
     options.mpi = given.mpi;
     options.resumed = given.resume;
     options.core = given.core;
     options.lrat = given.lrat;
     options.rehint = given.rehint;
     options.replace = given.replace;
+    options.with_formula = given.with_formula;
     options.verbose = given.verbose;
     options.quiet = given.quiet;
     options.share = !given.no_share;
@@ -177,6 +180,9 @@ void check_engines(const Options &options) {
         refuse("--cubes without engines: -j sets their number");
     if (options.cubes && !options.share && options.engines != 1)
         refuse("--cubes and --no-share: refuted cubes are shared");
+    if (options.in_order && !options.cubes) refuse("--cubes-in-order without --cubes");
+    if (options.in_order && (!options.solvers.empty() || options.mpi))
+        refuse("--cubes-in-order takes only engines of this host");
     if (!options.solvers.empty() && options.mpi)
         refuse("--solver and --mpi: a solver shares nothing with engines elsewhere");
     if (!options.solvers.empty() && options.assume && !options.check)
@@ -203,6 +209,10 @@ Options read_words(int count, char **words) {
     if (options.rehint && !options.core && !options.lrat)
         refuse("--re-hint without --core or --lrat");
     if (options.replace && !options.proofs) refuse("--replace without --proofs");
+    if (options.replace && is_numbered(options.proofs))
+        refuse("--replace and %n in --proofs: each run has a folder of its own");
+    if (options.with_formula && !options.proofs)
+        refuse("--with-formula without --proofs or --resume");
     if (given.save_every && !options.proofs) refuse("--save-every without --proofs or --resume");
     check_engines(options);
     return options;

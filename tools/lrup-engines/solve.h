@@ -29,6 +29,7 @@ struct Options {
     int seed = 0;
     const char *proofs = nullptr, *assume = nullptr, *cubes = nullptr, *mpi = nullptr,
                *formula = nullptr;
+    bool in_order = false;                        // all engines take the same cube of the file
     bool names_formula = false;                   // false: it is standard input
     const char *record = nullptr;                 // the user's folder of --proofs
     const char *resumed = nullptr;                // the folder of --resume
@@ -36,7 +37,8 @@ struct Options {
     std::string words;                            // the command line, quoted for a shell
     const char *core = nullptr, *lrat = nullptr;  // files to write
     bool rehint = false;                          // for core and LRAT text
-    bool replace = false;  // even a record with a proof, or with rounds of an unfinished run
+    bool replace = false;       // even a record with a proof, or with rounds of an unfinished run
+    bool with_formula = false;  // the record gets a copy of each input
     bool verbose = false, quiet = false;
     bool reports_progress = false;  // as lines of JSON
 
