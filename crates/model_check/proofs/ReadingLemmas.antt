@@ -6,7 +6,7 @@ use Rattle.std.specs.List.{AllByRecursion, slice_split}
 use Rattle.std.proofs.lemmas.Bool.{cases_Bool, true≢false, false≢true, eqb-true, eq-eqb, ne_eqb, eqb-false, leb-true, le-leb}
 use Rattle.std.proofs.lemmas.List.{append-nil}
 use Rattle.lrup_model.specs.Literal.{IsLiteral}
-use Rattle.dimacs.specs.Lines.{ends_line, is_comment, is_empty, runs, token_lines}
+use Rattle.dimacs.specs.Lines.{ends_line, is_comment, is_empty, runs}
 use Rattle.dimacs.specs.Numerals.{number_of}
 use Rattle.model_check.specs.ModelText.{is_v, is_s, values_of, IsModelText}
 use Rattle.model_check.specs.Reading.{Assigned, Outcome, onward, take_number, take_token, take_tokens, take_line, take_lines, at_end}

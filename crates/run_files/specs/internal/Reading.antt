@@ -1,7 +1,7 @@
 -- What was read from a file, and how a cause is spelled: definitions for contracts of private
 -- functions (this project's own).
 use Rattle.std.specs.Option.{ForSome}
-use Rattle.std.specs.Prelude.{◌++◌, ◌+◌, ◌≡◌, ◌≤◌, ◌⊎◌, List, Option, length, ℕ}
+use Rattle.std.specs.Prelude.{◌++◌, ◌≡◌, ◌≤◌, ◌⊎◌, List, Option, length, ℕ}
 use Rattle.lrup_text.specs.ReadOut.{SourceView}
 use Rattle.lrup_text.specs.Reads.{Gave, GaveAll}
 use Rattle.stream_check.specs.Faults.{number_text}

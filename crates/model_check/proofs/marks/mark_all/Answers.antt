@@ -1,7 +1,7 @@
-use Rattle.std.proofs.Common.{ℤ, neg_ℤ, take, drop, suc, refl, sym, subst, arith}
+use Rattle.std.proofs.Common.{neg_ℤ, take, drop, suc, refl, sym, subst, arith}
 use Rattle.std.proofs.lemmas.Bool.{false≢true}
 use Rattle.std.proofs.lemmas.List.{take_all}
-use Rattle.lrup_model.specs.Literal.{IsLiteral, code_of}
+use Rattle.lrup_model.specs.Literal.{IsLiteral}
 use Rattle.lrup_model.specs.Clause.{Has}
 use Rattle.lrup_model.specs.lemmas.ClauseLemmas.{All-read, take-read}
 use Rattle.lrup_model.specs.lemmas.CodeLemmas.{IsCode-code_of}
