@@ -1,5 +1,5 @@
--- Files in memory, about which contracts know everything: a formula, a stream and maybe a stream of
--- round 2, and the file that was created last.
+-- Files in memory, about which contracts know everything: a formula, a stream, maybe a stream of
+-- round 2 or assumed literals, and the file that was created last.
 use Rattle.std.specs.Prelude.{◌≡◌, ◌≢◌, ◌++◌, ◌⊎◌, ℕ, Bool, true, List, [], Option, None, Some, if◌then◌else◌, length, nat_eq}
 use Rattle.lrup_model.specs.Formula.{Cnf}
 use Rattle.dimacs.specs.FormulaText.{IsFormulaText}
@@ -14,8 +14,9 @@ use Rattle.run_files.specs.declared.files.OpenFault.TheVariants as open_faults
 use Rattle.command_tests.specs.declared.exact_files.Closing.{Closing}
 use Rattle.command_tests.specs.declared.exact_files.Closing.TheVariants as closings
 
--- the texts of the formula, of the stream, and of the stream of round 2, if there is one; whether
--- keeping a file fails; and the path, the bytes and the closing of the file that was created last
+-- the texts of the formula, of the stream, and of the stream of round 2 or the assumed literals, if
+-- there are any; whether keeping a file fails; and the path, the bytes and the closing of the file
+-- that was created last
 pub record ExactValue : Type 0 where
   pub formula : List ℕ
   pub stream : List ℕ
@@ -26,7 +27,8 @@ pub record ExactValue : Type 0 where
   pub closing : Closing
 
 -- the initial files: the formula at each path of one byte, the stream at each path of two bytes, and
--- the stream of round 2, if there is one, at each path of 20 bytes, as dir/round-2.stream-1 is
+-- the stream of round 2 or the assumed literals, if there are any, at each path of 20 bytes, as
+-- dir/round-2.stream-1 and dir/assumed-literals are
 abbrev pub text_at : ExactValue → List ℕ → Option (List ℕ)
 text_at files path = if nat_eq (length path) 1 then Some files.formula
     else (if nat_eq (length path) 2 then Some files.stream

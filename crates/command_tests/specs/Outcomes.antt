@@ -1,6 +1,9 @@
 -- Words and files for which the premises of the laws of outcomes hold.
 use Rattle.std.specs.Prelude.{◌≡◌, ℕ, true, List, [], ◌∷◌, Some, codes}
+use Rattle.lrup_model.specs.Cube.{CubeValue, IsUnsatisfiableUnder}
 use Rattle.lrup_model.specs.Formula.{Cnf}
+use Rattle.dimacs.specs.FormulaText.{IsFormulaText}
+use Rattle.lrup_text.specs.Cubes.{IsCubeText}
 use Rattle.lrup_text.specs.Lines.{StreamLine, Addition}
 use Rattle.stream_check.specs.declared.report.Report.{Report}
 use Rattle.stream_check.specs.Closed.{IsOfStream}
@@ -99,3 +102,13 @@ saving = codes "--checkpoint" ∷ codes "new" ∷ codes "f" ∷ codes "s1" ∷ [
 
 abbrev pub plain : List Text
 plain = codes "f" ∷ codes "s1" ∷ []
+
+abbrev pub assuming_literals : List Text
+assuming_literals = codes "--assume" ∷ codes "dir/assumed-literals" ∷ codes "f" ∷ codes "s1" ∷ []
+
+-- the bytes are texts of literals and of a formula, over the same variables, and no assignment
+-- satisfies the formula and makes all these literals true
+abbrev pub AreUnsatisfiableTexts : List ℕ → List ℕ → Type 0
+AreUnsatisfiableTexts assumed bytes = (formula : Cnf) × (cube : CubeValue)
+    × IsFormulaText bytes formula × IsCubeText formula.vars assumed cube
+    × IsUnsatisfiableUnder formula cube

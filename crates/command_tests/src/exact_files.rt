@@ -28,8 +28,8 @@ pub enum Closing {
 }
 
 /// The formula at each path of one byte, the stream at each path of two bytes, the stream of round
-/// 2, if there is one, at each path of 20 bytes, as `dir/round-2.stream-1` is, and the file that was
-/// created last.
+/// 2 or the assumed literals, if there are any, at each path of 20 bytes, as `dir/round-2.stream-1`
+/// and `dir/assumed-literals` are, and the file that was created last.
 #[derive(Drop)]
 pub struct ExactFiles<'a> {
     alloc: Global,

@@ -1,11 +1,13 @@
 //! Words and files for which the premises of the laws of outcomes hold, and what the laws say about
 //! runs of these words over these files.
-ghost use Rattle.std.specs.Prelude.{◌≡◌, ◌⊎◌, IsTrue};
+ghost use Rattle.std.specs.Prelude.{◌≡◌, ◌⊎◌, IfSome, IsTrue};
 ghost use Rattle.checkpoint.specs.Checkpoints.{IsUnsatisfiableText};
 ghost use Rattle.command.specs.Commands.{SinkChange};
+ghost use Rattle.command.specs.Rounds.{ProgramEnds};
 ghost use Rattle.outcome_laws.specs.Inconclusive.{InconclusiveBecause};
 ghost use Rattle.outcome_laws.specs.Valid.{AreValidAlone, AskForValidRounds, IsRefutedAlone};
-ghost use Rattle.command_tests.specs.Outcomes.{AddsUnit, FirstLinesAgree, HaveSameTexts, RefuteInRound2, TurnsAgree, two_rounds};
+ghost use Rattle.command_tests.specs.ExactFiles.{ExactValue};
+ghost use Rattle.command_tests.specs.Outcomes.{AddsUnit, AreUnsatisfiableTexts, FirstLinesAgree, HaveSameTexts, RefuteInRound2, TurnsAgree, saving, two_rounds};
 
 use crate::exact_files::ExactFiles;
 use checkpoint::laws::printed_is_read;
@@ -14,7 +16,7 @@ use dimacs::laws::one_formula;
 use lrup_text::laws::{a_stream_is_cut_in_one_way, no_bytes_may_become_a_line};
 use outcome_laws::laws::{
     one_command_line, outcome_of_valid_rounds, outcomes_agree, outcomes_refute,
-    serial_outcomes_agree,
+    outcomes_refute_under, serial_outcomes_agree,
 };
 use std::alloc::Global;
 use std::str;
@@ -78,6 +80,31 @@ pub fn first_lines_agree<'a>(files: &ExactFiles<'a>, others: &ExactFiles<'a>)
     outcomes_agree(files, others);
 }
 
+/// Runs over the formula and the stream, and saves the clauses. If this ends with status 3, returns
+/// the files with what was saved.
+fn save<'a, T: Threads + Wait + Sync + Clock>(
+    threads: &T,
+    alloc: Global,
+    formula: &'a str,
+    stream: &'a str,
+) -> Option<ExactFiles<'a>>
+    ensures { IfSome result (λ after. (start : ExactValue) × (out err : SinkChange)
+        × (start.formula ≡ formula.now)
+        × ProgramEnds (⟦<ExactFiles<'a> as Viewed>⟧.view start) saving after out err 3) }
+{
+    let mut files = ExactFiles::new(alloc, formula, stream, None, false, 0);
+    let mut out = Paper::new(alloc, 7, 0);
+    let mut err = Paper::new(alloc, 7, 0);
+    let words = ["--checkpoint", "new", "f", "s1"];
+    let status = command(
+        threads, threads, alloc, &words, &mut files, &mut out, &mut err,
+    );
+    if status != 3 {
+        return None;
+    }
+    Some(files)
+}
+
 /// Whether a run over the formula and the first stream ends with status 3, and a run over what it
 /// saved and the second stream ends with status 0. Then these runs meet the premises of the law
 /// `outcomes_refute`, so no assignment satisfies the formula.
@@ -90,17 +117,10 @@ pub fn refute_in_two_runs<'a, T: Threads + Wait + Sync + Clock>(
 ) -> bool
     ensures { IsTrue result → IsUnsatisfiableText formula.now }
 {
-    let mut files = ExactFiles::new(alloc, formula, first, None, false, 0);
-    outcomes_refute(&files);
-    let mut out = Paper::new(alloc, 7, 0);
-    let mut err = Paper::new(alloc, 7, 0);
-    let words = ["--checkpoint", "new", "f", "s1"];
-    let status = command(
-        threads, threads, alloc, &words, &mut files, &mut out, &mut err,
-    );
-    if status != 3 {
+    let Some(files) = save(threads, alloc, formula, first) else {
         return false;
-    }
+    };
+    outcomes_refute(&files);
     let (_, bytes, _) = files.last();
     let Ok(saved) = str::from_utf8(bytes) else {
         return false;
@@ -118,4 +138,43 @@ pub fn refute_in_two_runs<'a, T: Threads + Wait + Sync + Clock>(
         &mut err,
     );
     last == 0
+}
+
+/// Whether a run over the formula and the first stream ends with status 3, and a run over what it
+/// saved and the second stream, under the assumed literals, ends with status 8. Then these runs
+/// meet the premises of the law `outcomes_refute_under`, so no assignment satisfies the formula and
+/// makes these literals true.
+pub fn refute_under_in_two_runs<'a, T: Threads + Wait + Sync + Clock>(
+    threads: &T,
+    alloc: Global,
+    formula: &'a str,
+    first: &'a str,
+    second: &'a str,
+    assumed: &'a str,
+) -> bool
+    ensures { IsTrue result → AreUnsatisfiableTexts assumed.now formula.now }
+{
+    let Some(files) = save(threads, alloc, formula, first) else {
+        return false;
+    };
+    one_formula();
+    outcomes_refute_under(&files);
+    let (_, bytes, _) = files.last();
+    let Ok(saved) = str::from_utf8(bytes) else {
+        return false;
+    };
+    let mut others = ExactFiles::new(alloc, saved, second, Some(assumed), false, 0);
+    let mut out = Paper::new(alloc, 7, 0);
+    let mut err = Paper::new(alloc, 7, 0);
+    let words = ["--assume", "dir/assumed-literals", "f", "s1"];
+    let last = command(
+        threads,
+        threads,
+        alloc,
+        &words,
+        &mut others,
+        &mut out,
+        &mut err,
+    );
+    last == 8
 }

@@ -24,7 +24,8 @@ fn unread(error: &io::Error, role: &'static str) -> Failure {
     }
 }
 
-/// The machine's files. Contracts say nothing about their contents: `gives` allows everything.
+/// The machine's files. Contracts say nothing about their contents and when reads fail: `gives` and
+/// `fails` allow everything.
 #[derive(Drop)]
 struct MachineFiles<'a> {
     rt: &'a HostRuntime,
@@ -32,6 +33,8 @@ struct MachineFiles<'a> {
 
 impl Files for MachineFiles<'_> {
     ghost gives = { λ _ _ _. Unit {0} };
+
+    ghost fails = { λ _ _ _. Unit {0} };
 
     /// `-` is standard input.
     fn read(&self, path: &str, role: &'static str) -> Result<Vec<u8>, Failure> {

@@ -3,7 +3,7 @@ use super::shelf::Thing::{self, Failing, Text};
 use super::*;
 
 /// 1 2 0 / -1 2 0
-const TWO: &str = "p cnf 2 2\n1 2 0\n-1 2 0\n";
+pub const TWO: &str = "p cnf 2 2\n1 2 0\n-1 2 0\n";
 
 /// The two clauses, and a stream that derives 2.
 const UNIT: Setup = Setup {

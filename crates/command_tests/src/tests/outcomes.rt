@@ -1,8 +1,9 @@
 //! Runs about which `outcomes` says what follows from the laws: none of them ends with an excuse.
+use super::assumptions::TWO;
 use super::*;
 use crate::exact_files::Closing::Discarded;
 use crate::exact_files::ExactFiles;
-use crate::outcomes::{refute_in_two_runs, run_two_rounds};
+use crate::outcomes::{refute_in_two_runs, refute_under_in_two_runs, run_two_rounds};
 
 /// Derives the empty clause from the clauses of `ALL`.
 const ENDS: &str = "6 0 5 3 4 0\n";
@@ -22,6 +23,22 @@ fn the_second_run_refutes(rt: HostRuntime) {
     same(&rt, refutes, true);
     let refutes = refute_in_two_runs(&rt, rt.alloc(), FOUR, "", ENDS);
     same(&rt, refutes, false);
+}
+
+/// Adds the unit clause 2 to the clauses of `TWO`.
+const DERIVES: &str = "3 2 0 1 2 0\n";
+/// Adds the unit clause 2 once more, from what the first run added.
+const REPEATS: &str = "4 2 0 3 0\n";
+
+/// The assumed literals, and whether the second run ends with 8.
+static UNDER: [(&str, bool); 2] = [("-2 0\n", true), ("2 0\n", false)];
+
+#[test]
+fn the_second_run_refutes_under_assumptions(rt: HostRuntime) {
+    for &(assumed, wanted) in &UNDER {
+        let refutes = refute_under_in_two_runs(&rt, rt.alloc(), TWO, DERIVES, REPEATS, assumed);
+        same(&rt, (assumed, refutes), (assumed, wanted));
+    }
 }
 
 const OTHER: &str = "dir/round-2.stream-1";
