@@ -2,13 +2,13 @@
 use Rattle.std.proofs.Common.{◌∙◌, ◌≡◌, Bool, Err, IfErr, IfOk, IfSome, List, Ok, Option, Result, Some, false}
 use Rattle.std.proofs.Common.{inl, inr, refl, rules, subst, sym, ℕ}
 use Rattle.std.specs.Prelude.{◌↔◌, IsErrAnd}
-use Rattle.lrup_model.specs.Cube.{CubeValue}
+use Rattle.lrup_model.specs.Cube.{CubeValue, IsUnsatisfiableUnder}
+use Rattle.lrup_model.specs.Entailment.{IsUnsatisfiable}
 use Rattle.lrup_model.specs.Formula.{Cnf}
 use Rattle.lrup_model.specs.Layout.{IsFault, IsStream, LayoutValue}
 use Rattle.lrup_model.specs.declared.layout.LayoutFault.{LayoutFault}
 use Rattle.lrup_text.specs.ReadOut.{SourceView}
 use Rattle.stream_check.specs.Streams.{RunParamsValue}
-use Rattle.checkpoint.specs.Checkpoints.{IsUnsatisfiableText}
 use Rattle.run_outcome.specs.RingStops.{StopsAtRing}
 use Rattle.run_outcome.specs.declared.outcome.Checked.{Checked}
 use Rattle.run_outcome.specs.declared.outcome.RunFault.{RunFault}
@@ -19,12 +19,12 @@ use Rattle.command_line.specs.declared.words.CommandLine.{CommandLine}
 use Rattle.run_files.specs.Asked.{Text, assumed_at, created_path, run_params_by}
 use Rattle.run_files.specs.Causes.{HasNoFault, IsLeftUnused, IsRoundStartCause, IsStartCause}
 use Rattle.run_files.specs.FaultSources.{of_run}
-use Rattle.run_files.specs.Files.{AreAssumed, Effects, FilesView, WasRead, WasReadIn}
+use Rattle.run_files.specs.Files.{Effects, FilesView, WasReadIn, WereRead}
 use Rattle.run_files.specs.Saving.{IsNotCreated}
 use Rattle.run_files.specs.lemmas.ResultLemmas.{err_given}
 use Rattle.run_files.specs.declared.fault.CommandFault.{CommandFault}
 use Rattle.run_files.specs.declared.fault.CommandFault.TheVariants as faults
-use Rattle.command.specs.Commands.{IsUnsatisfiableTextWith, NameUnsatisfiable, NameUnsatisfiableUnder}
+use Rattle.command.specs.Commands.{NameUnsatisfiable, NameUnsatisfiableUnder}
 use Rattle.command.specs.internal.Running.{IsCheckResult, IsLayoutCause, IsRunCause}
 
 -- if P implies Q, `IfOk` with P implies `IfOk` with Q
@@ -94,26 +94,39 @@ has_layout p result outcome is layout fault refused =
 pub ask_for : (words : List Text) (given : CommandLine) → IsCommandLineOf words given → AskFor words given.formula.now (assumed_at given)
 ask_for words given line = record { good = line.good; formula_is = line.said.formula; assume_is = sym line.said.assume }
 
--- if the bytes that were read are a text of an unsatisfiable formula, the words name such a text
-pub names_unsatisfiable : (files : FilesView) (words : List Text) (given : CommandLine) (bytes : List ℕ) (next : files.its.State)
-    → IsCommandLineOf words given
-    → WasReadIn files files.first given.formula.now bytes next → IsUnsatisfiableText bytes
+-- if no assignment satisfies the formula that was read, the words name its text
+pub names_unsatisfiable : (files : FilesView) (words : List Text) (given : CommandLine) (formula : Cnf) (cube : CubeValue)
+    (after : files.its.State) → IsCommandLineOf words given → WereRead files given formula cube after → IsUnsatisfiable formula
     → NameUnsatisfiable files.its.State (WasReadIn files) files.first words
-names_unsatisfiable files words given bytes next line read refuted =
-    (given.formula.now, assumed_at given, bytes, refuted.0, next, ask_for words given line, read, refuted.1, refuted.2)
+names_unsatisfiable files words given formula cube after line were refuted = (
+  given.formula.now,
+  assumed_at given,
+  were.is_formula.0,
+  formula,
+  were.next,
+  ask_for words given line,
+  were.is_formula.1,
+  were.is_formula.2,
+  refuted,
+)
 
--- `names_unsatisfiable` with the assumed literals, if the known contents of files haven't changed
-pub names_unsatisfiable_under : (files : FilesView) (words : List Text) (given : CommandLine) (bytes : List ℕ) (next : files.its.State)
-    (contents : Text → Option (List ℕ))
-    → contents ≡ files.contents → IsCommandLineOf words given → WasReadIn files files.first given.formula.now bytes next
-    → IsUnsatisfiableTextWith (WasRead files.its.opens files.its.reading.reads contents) bytes next (assumed_at given)
-    → NameUnsatisfiableUnder files.its.State (WasReadIn files) files.first words
-names_unsatisfiable_under files words given bytes next contents known line read (f, cube, after, text, assumed, refuted) =
-    let same =
-    subst (λ (t : Text → Option (List ℕ)). AreAssumed (WasRead files.its.opens files.its.reading.reads t) f.vars next (assumed_at given)
-    cube after)
-    known assumed in
-    (given.formula.now, assumed_at given, bytes, f, cube, next, after, ask_for words given line, read, text, same, refuted)
+pub names_unsatisfiable_under : (files : FilesView) (words : List Text) (given : CommandLine) (formula : Cnf) (cube : CubeValue)
+    (after : files.its.State) → IsCommandLineOf words given → WereRead files given formula cube after
+    → IsUnsatisfiableUnder formula cube → NameUnsatisfiableUnder files.its.State (WasReadIn files) files.first words
+names_unsatisfiable_under files words given formula cube after line were refuted = (
+  given.formula.now,
+  assumed_at given,
+  were.is_formula.0,
+  formula,
+  cube,
+  were.next,
+  after,
+  ask_for words given line,
+  were.is_formula.1,
+  were.is_formula.2,
+  were.assumed,
+  refuted,
+)
 
 -- why streams that were opened weren't checked: the layout has a fault
 module _ (its : Effects) (serial : Bool) (f : Cnf) (run_params : RunParamsValue) (readers : List its.Reader) (before : its.State)

@@ -34,14 +34,6 @@ NameUnsatisfiable F Read first words =
     × (after : F) × AskFor words formula_path assume × Read first formula_path bytes after
     × IsFormulaText bytes formula × IsUnsatisfiable formula
 
--- The bytes are a text of a formula that no assignment satisfies under the assumed literals, which
--- are read next, from the path if there is one.
-abbrev pub IsUnsatisfiableTextWith : {F : Type 0} → (F → Text → List ℕ → F → Type 0) → List ℕ → F
-    → Option Text → Type 0
-IsUnsatisfiableTextWith {F = F} Read bytes before path =
-    (formula : Cnf) × (cube : CubeValue) × (after : F) × IsFormulaText bytes formula
-    × AreAssumed Read formula.vars before path cube after × IsUnsatisfiableUnder formula cube
-
 -- The words name a formula and, if given, a file of assumed literals. These two files, the first to
 -- be opened, hold texts of the formula and of the literals, and no assignment satisfies the formula
 -- under the literals.

@@ -8,6 +8,7 @@ use command_line::{CommandLine, Sizes};
 use lrup_model::{Cube, Formula};
 use portfolio::{Options, Verdict};
 use run_files::CommandFault;
+use std::borrow::Cow;
 use std::time::Instant;
 use stream_check::Report;
 
@@ -30,11 +31,12 @@ impl Course<'_> {
 
 /// A round whose streams are open.
 #[derive(Drop)]
-pub(crate) struct OpenRound<R: Drop> {
+pub(crate) struct OpenRound<'a, R: Drop> {
     /// The round's number, counted from 1.
     pub(crate) number: u64,
     pub(crate) sizes: Sizes,
-    pub(crate) formula: Formula,
+    /// Its formula. That of round 1 may be lent; all later ones are owned.
+    pub(crate) formula: Cow<'a, Formula>,
     /// The readers of its streams, `sizes.streams` in number.
     pub(crate) readers: Vec<R>,
 }

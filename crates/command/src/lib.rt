@@ -11,4 +11,4 @@ mod watching;
 
 pub use arguments::command_with_arguments;
 pub use program::{check_formula, command};
-pub use run_files::{Asked, Files, Machine, OpenFault, Viewed};
+pub use run_files::{Files, Machine, OpenFault, Viewed};

@@ -1,25 +1,30 @@
 //! The whole program, over the files, threads, clock and sinks that its caller passes in.
 ghost use Rattle.std.specs.Prelude.{◌≡◌, ◌↔◌, ◌⊎◌, ◌≤◌, IsTrue, List, false, is_err, true};
+ghost use Rattle.std.specs.Cow.{cow_value};
 ghost use Rattle.clap.specs.Walk.{texts};
-ghost use Rattle.checkpoint.specs.Checkpoints.{IsUnsatisfiableText};
+ghost use Rattle.lrup_model.specs.Cube.{IsUnsatisfiableUnder};
+ghost use Rattle.lrup_model.specs.Entailment.{IsUnsatisfiable};
 ghost use Rattle.command_line.specs.CommandLine.{HaveFault, IsCommandLineOf};
-ghost use Rattle.command.specs.Commands.{CheckpointEntailed, CheckpointLeftEmpty, IsUnsatisfiableTextWith, NameUnsatisfiable};
+ghost use Rattle.command.specs.Commands.{CheckpointEntailed, CheckpointLeftEmpty, NameUnsatisfiable};
 ghost use Rattle.command.specs.Rounds.{ProgramEnds, RoundsEntailed, last_text, round_text};
 ghost use Rattle.lrup_text.specs.Writing.{WritesText};
 ghost use Rattle.command.specs.Commands.{NameUnsatisfiableUnder, SaysOfRound, SinkTook, change, report_status};
-ghost use Rattle.run_files.specs.Asked.{Text, assumed_at};
-ghost use Rattle.run_files.specs.Files.{WasRead, WasReadIn, WasSaved, from_first};
+ghost use Rattle.run_files.specs.Asked.{Text};
+ghost use Rattle.run_files.specs.Files.{WasRead, WasSaved, WereRead, from_first};
 ghost use Rattle.run_files.specs.Faults.{round_error_text, status_of};
 ghost use Rattle.stream_check.specs.StreamParams.{max_tries};
 
 use crate::course::CheckedRound;
-use crate::rounds::begin_and_check;
+use crate::rounds::open_and_check;
 use checkpoint::SaveFault;
 use checkpoint::laws::{entails_itself, entails_onward};
+use command_line::CommandLine;
+use lrup_model::{Cube, Formula};
 use lrup_text::{Sink, WriteBuffer, WriteFault};
 use portfolio::{Verdict, write_report};
 use run_files::{Asked, CommandFault, Machine, Viewed, read_asked};
 use std::alloc::Global;
+use std::borrow::Cow;
 use std::sync::Wait;
 use std::thread::Threads;
 use std::time::Clock;
@@ -106,21 +111,34 @@ pub fn command<T: Threads + Wait + Sync, C: Clock + Sync, F: Machine, O: Sink, E
     entails_itself();
     entails_onward();
     match read_asked(threads, alloc, words, files) {
-        Ok(asked) => check_formula(threads, clock, alloc, asked, files, out, err),
+        Ok(asked) => {
+            let Asked {
+                line,
+                formula,
+                cube,
+            } = asked;
+            let formula = Cow::Owned(formula);
+            check_formula(
+                threads, clock, alloc, &line, formula, &cube, files, out, err,
+            )
+        }
         Err(fault) => say(1, &fault, err),
     }
 }
 
-/// Checks the streams against a formula's text, as `command` does once it has read the formula's
-/// file. In this order, the call parses the text, frees it, reads and parses the file of the
-/// assumed literals, opens the streams, creates the checkpoint's file if one is asked for, checks
-/// the streams, saves the checkpoint, checks further rounds if they are asked for, and writes the
-/// report to `out`. The text may come from any source, so the clause `sound` mentions no file.
+/// Checks the streams of a command line against a formula, under the assumed literals, as `command`
+/// does once it has read both. In this order, the call opens the streams, creates the checkpoint's
+/// file if one is asked for, checks the streams, saves the checkpoint, checks further rounds if
+/// they are asked for, and writes the report to `out`. A caller who still needs the formula lends
+/// it. One that is owned is freed before the checkpoint is saved. Formula and assumptions may come
+/// from any source, so the clauses `sound` and `sound_under` mention no file.
 pub fn check_formula<T: Threads + Wait + Sync, C: Clock + Sync, F: Machine, O: Sink, E: Sink>(
     threads: &T,
     clock: &C,
     alloc: Global,
-    asked: Asked<'_>,
+    line: &CommandLine<'_>,
+    formula: Cow<'_, Formula>,
+    cube: &Cube,
     files: &mut F,
     out: &mut O,
     err: &mut E,
@@ -128,26 +146,23 @@ pub fn check_formula<T: Threads + Wait + Sync, C: Clock + Sync, F: Machine, O: S
     requires out { O.has_failed out.old ≡ false }
     requires err { E.has_failed err.old ≡ false }
     // The words can't ask for more tries.
-    requires tries { asked.line.tries ≤ max_tries }
-    // With status 0, the bytes are a text of a formula that no assignment satisfies.
-    ensures sound { result ≡ 0 → IsUnsatisfiableText asked.entry.formula.items }
-    // With status 8, no assignment satisfies both that formula and every literal in the
-    // assumptions' file, which is opened next.
-    ensures sound_under { let read = WasRead F.opens F.Input.Source.reads (F.contents files.old) in
-        result ≡ 8 → IsUnsatisfiableTextWith read asked.entry.formula.items files.old
-        (assumed_at asked.entry.line) }
-    // Suppose that words give this command line, and that the bytes were read from FORMULA, the
-    // first file to be opened, when the files were `first`. Then the program ends as `ProgramEnds`
-    // says for these words and files: with a report, or with the cause instead; and the output and
-    // the status match.
+    requires tries { line.now.tries ≤ max_tries }
+    // With status 0, no assignment satisfies the formula.
+    ensures sound { result ≡ 0 → IsUnsatisfiable (cow_value formula.entry) }
+    // With status 8, no assignment satisfies both the formula and every assumed literal.
+    ensures sound_under { result ≡ 8 → IsUnsatisfiableUnder (cow_value formula.entry) cube.now }
+    // Suppose that words give this command line, and that the formula and the assumed literals were
+    // read from the files that it names, the first to be opened, when the files were `first`. Then
+    // the program ends as `ProgramEnds` says for these words and files: with a report, or with the
+    // cause instead; and the output and the status match.
     ensures ends { (words : List Text) (first : F) →
         let view = from_first (⟦<F as Viewed>⟧.view files.old) first in
-        IsCommandLineOf words asked.entry.line
-        → WasReadIn view first asked.entry.line.formula.now asked.entry.formula.items files.old
+        IsCommandLineOf words line.now
+        → WereRead view line.now (cow_value formula.entry) cube.now files.old
         → ProgramEnds view words files.new (change O.Sink out.old out.new)
         (change E.Sink err.old err.new) result }
 {
-    match begin_and_check(threads, clock, alloc, asked, files) {
+    match open_and_check(threads, clock, alloc, line, formula, cube, files) {
         Ok(last) => report(&last, out, err),
         Err(failed) => say(failed.round, &failed.fault, err),
     }

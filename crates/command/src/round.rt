@@ -1,6 +1,6 @@
 //! One round: its streams are checked, and their clauses saved.
 ghost use Rattle.std.specs.Prelude.{◌≡◌, ◌↔◌, ◌<◌, ◌+◌, false, IfErr, IfOk, IsTrue, List, is_some, length, option_map, string_bytes};
-ghost use Rattle.std.specs.Cow.{cow_str_bytes};
+ghost use Rattle.std.specs.Cow.{cow_str_bytes, cow_value};
 ghost use Rattle.std.specs.List.{AllByRecursion};
 ghost use Rattle.std.specs.Option.{ForSome};
 ghost use Rattle.lrup_model.specs.Formula.{Cnf};
@@ -34,7 +34,7 @@ pub(crate) fn check_round<T: Threads + Wait + Sync, C: Clock + Sync, F: Machine>
     clock: &C,
     alloc: Global,
     course: &Course<'_>,
-    round: OpenRound<F::Input>,
+    round: OpenRound<'_, F::Input>,
     files: &mut F,
 ) -> Result<RoundResult, CommandFault>
     requires running { AllByRecursion (λ r. F.Input.Source.has_failed r ≡ false)
@@ -42,30 +42,30 @@ pub(crate) fn check_round<T: Threads + Wait + Sync, C: Clock + Sync, F: Machine>
     requires count { length round.readers.items ≡ round.sizes.streams }
     requires number { round.number < u64.MAX }
     ensures found { IfOk result (λ found. WasFound ⟦<F as Viewed>⟧.effects course.now.line.now
-        course.now.cube.now round.formula round.readers.items files.old found.last found.next
-        files.new) }
-    ensures number { IfOk result (λ found. found.last.number ≡ round.number) }
-    ensures sizes { IfOk result (λ found. found.last.sizes ≡ round.sizes) }
+        course.now.cube.now (cow_value round.entry.formula) round.entry.readers.items files.old
+        found.last found.next files.new) }
+    ensures number { IfOk result (λ found. found.last.number ≡ round.entry.number) }
+    ensures sizes { IfOk result (λ found. found.last.sizes ≡ round.entry.sizes) }
     ensures cause { IfErr result (λ fault. IsRoundStartCause ⟦<F as Viewed>⟧.effects
-        course.now.line.now course.now.cube.now round.number round.formula round.sizes
-        round.readers.items files.old fault files.new) }
+        course.now.line.now course.now.cube.now round.entry.number (cow_value round.entry.formula)
+        round.entry.sizes round.entry.readers.items files.old fault files.new) }
 {
     let path = created_path(alloc, course.line.next, round.number)?;
     let options = course.options(round.sizes);
-    options.layout(&round.formula, round.readers.len())?;
+    options.layout(round.formula.as_ref(), round.readers.len())?;
     let output = create_checkpoint(files, lent(&path))?;
     run_round(threads, clock, alloc, course, options, round, output, files)
 }
 
-/// Checks the streams of a round, which have a layout; then frees the round's formula, and ends the
-/// round. After a fault of the run, discards the round's file, if there is one.
+/// Checks the streams of a round, which have a layout; then frees the round's formula, unless it is
+/// lent, and ends the round. After a fault of the run, discards the round's file, if there is one.
 fn run_round<T: Threads + Wait + Sync, C: Clock + Sync, F: Machine>(
     threads: &T,
     clock: &C,
     alloc: Global,
     course: &Course<'_>,
     options: Options,
-    round: OpenRound<F::Input>,
+    round: OpenRound<'_, F::Input>,
     output: Option<F::Output>,
     files: &mut F,
 ) -> Result<RoundResult, CommandFault>
@@ -75,19 +75,22 @@ fn run_round<T: Threads + Wait + Sync, C: Clock + Sync, F: Machine>(
     requires options { options ≡ options_by course.now.line.now.tries round.sizes }
     requires output { ForSome output (λ sink. F.Output.Sink.has_failed sink ≡ false) }
     requires layout { HasNoFault
-        (run_params_by course.now.line.now course.now.cube.now round.formula round.sizes).layout }
+        (run_params_by course.now.line.now course.now.cube.now (cow_value round.formula)
+        round.sizes).layout }
     ensures found { let its = ⟦<F as Viewed>⟧.effects in
-        let path = created_path course.now.line.now.next round.number in
+        let path = created_path course.now.line.now.next round.entry.number in
         (before : F) → CreatesCheckpoint its before path output files.old
-        → IfOk result (λ found. WasFound its course.now.line.now course.now.cube.now round.formula
-        round.readers.items before found.last found.next files.new) }
-    ensures number { IfOk result (λ found. found.last.number ≡ round.number) }
-    ensures sizes { IfOk result (λ found. found.last.sizes ≡ round.sizes) }
+        → IfOk result (λ found. WasFound its course.now.line.now course.now.cube.now
+        (cow_value round.entry.formula) round.entry.readers.items before found.last found.next
+        files.new) }
+    ensures number { IfOk result (λ found. found.last.number ≡ round.entry.number) }
+    ensures sizes { IfOk result (λ found. found.last.sizes ≡ round.entry.sizes) }
     ensures cause { let its = ⟦<F as Viewed>⟧.effects in
-        let path = created_path course.now.line.now.next round.number in
+        let path = created_path course.now.line.now.next round.entry.number in
         (before : F) → CreatesCheckpoint its before path output files.old
         → IfErr result (λ fault. IsRoundStartCause its course.now.line.now course.now.cube.now
-        round.number round.formula round.sizes round.readers.items before fault files.new) }
+        round.entry.number (cow_value round.entry.formula) round.entry.sizes
+        round.entry.readers.items before fault files.new) }
 {
     let OpenRound {
         number,
@@ -97,7 +100,14 @@ fn run_round<T: Threads + Wait + Sync, C: Clock + Sync, F: Machine>(
     } = round;
     let report_on = course.line.watch.then_some(&*files);
     let run = match run_streams(
-        threads, clock, alloc, course, options, &formula, report_on, readers,
+        threads,
+        clock,
+        alloc,
+        course,
+        options,
+        formula.as_ref(),
+        report_on,
+        readers,
     ) {
         Ok(run) => run,
         Err(fault) => {

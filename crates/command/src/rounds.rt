@@ -1,15 +1,15 @@
 //! A run as a list of rounds, each of which starts from the clauses that the previous one saved.
 ghost use Rattle.std.specs.Prelude.{◌≡◌, ◌↔◌, ◌⊎◌, ◌<◌, ◌≤◌, ◌+◌, ◌∷◌, List, None, false, IfErr, IfOk, IfSome, IsTrue, Ok, Some, length, map, option_map, string_bytes};
-ghost use Rattle.std.specs.Cow.{cow_str_bytes};
+ghost use Rattle.std.specs.Cow.{cow_str_bytes, cow_value};
 ghost use Rattle.std.specs.List.{AllByRecursion};
 ghost use Rattle.std.specs.Option.{ForSome};
-ghost use Rattle.checkpoint.specs.Checkpoints.{IsUnsatisfiableText};
+ghost use Rattle.lrup_model.specs.Cube.{IsUnsatisfiableUnder};
+ghost use Rattle.lrup_model.specs.Entailment.{IsUnsatisfiable};
 ghost use Rattle.lrup_model.specs.Formula.{Cnf};
 ghost use Rattle.command_line.specs.CommandLine.{IsCommandLineOf, rounds_of};
-ghost use Rattle.run_files.specs.Files.{AreOpened, StreamsOpened, WasRead, WasReadIn, from_first};
+ghost use Rattle.run_files.specs.Files.{AreOpened, StreamsOpened, WereRead, from_first};
 ghost use Rattle.run_files.specs.Causes.{IsOpenCause, IsRoundStartCause, IsStreamCause};
-ghost use Rattle.command.specs.Commands.{IsUnsatisfiableTextWith};
-ghost use Rattle.run_files.specs.Asked.{Text, assumed_at, created_path, path_of, sizes_of};
+ghost use Rattle.run_files.specs.Asked.{Text, created_path, path_of, sizes_of};
 ghost use Rattle.run_files.specs.Paths.{formula_path, stream_path, stream_paths};
 ghost use Rattle.command.specs.Rounds.{HaveEnded, IsCauseIn, IsRoundCause};
 ghost use Rattle.command_line.specs.declared.sizes.Sizes.{Sizes};
@@ -21,13 +21,12 @@ use crate::course::{CheckedRound, Course, OpenRound, RoundFault, RoundResult};
 use crate::round::check_round;
 use crate::watching::report_begin;
 use checkpoint::laws::{refutes_back, refutes_back_under};
-use command_line::{Next, Sizes};
-use lrup_model::Formula;
+use command_line::{CommandLine, Next, Sizes};
+use lrup_model::{Cube, Formula};
 use portfolio::Verdict;
-use run_files::{
-    Asked, Beginning, CommandFault, Machine, Viewed, begin, open_round, sizes_of_round,
-};
+use run_files::{CommandFault, Machine, Viewed, open_round, open_streams, sizes_of_round};
 use std::alloc::{AllocError, Global};
+use std::borrow::Cow;
 use std::sync::Wait;
 use std::thread::Threads;
 use std::time::Clock;
@@ -73,7 +72,7 @@ fn next_round<T: Threads + Wait + Sync, C: Clock + Sync, F: Machine>(
     let round = OpenRound {
         number,
         sizes,
-        formula,
+        formula: Cow::Owned(formula),
         readers,
     };
     match check_round(threads, clock, alloc, course, round, files) {
@@ -88,7 +87,7 @@ fn check_rounds<T: Threads + Wait + Sync, C: Clock + Sync, F: Machine>(
     clock: &C,
     alloc: Global,
     course: &Course<'_>,
-    round: OpenRound<F::Input>,
+    round: OpenRound<'_, F::Input>,
     files: &mut F,
 ) -> Result<CheckedRound, RoundFault>
     requires running { AllByRecursion (λ r. F.Input.Source.has_failed r ≡ false)
@@ -98,14 +97,15 @@ fn check_rounds<T: Threads + Wait + Sync, C: Clock + Sync, F: Machine>(
     requires sizes { round.sizes ≡ sizes_of course.now.line.now }
     ensures finished { let its = ⟦<F as Viewed>⟧.effects in
         (first : F)
-        → StreamsOpened its first course.now.line.now.streams round.readers.items files.old
-        → IfOk result (λ last. EndsAt its course.now.line.now course.now.cube.now round.formula
-        first last files.new) }
+        → StreamsOpened its first course.now.line.now.streams round.entry.readers.items files.old
+        → IfOk result (λ last. EndsAt its course.now.line.now course.now.cube.now
+        (cow_value round.entry.formula) first last files.new) }
     ensures cause { let its = ⟦<F as Viewed>⟧.effects in
         (first : F)
-        → StreamsOpened its first course.now.line.now.streams round.readers.items files.old
+        → StreamsOpened its first course.now.line.now.streams round.entry.readers.items files.old
         → IfErr result (λ failed. FailsAt its course.now.line.now course.now.cube.now
-        round.formula first round.readers.items files.old failed files.new) }
+        (cow_value round.entry.formula) first round.entry.readers.items files.old failed
+        files.new) }
 {
     let checked = match check_round(threads, clock, alloc, course, round, files) {
         Ok(checked) => checked,
@@ -139,54 +139,41 @@ fn check_rounds<T: Threads + Wait + Sync, C: Clock + Sync, F: Machine>(
     Ok(last)
 }
 
-/// Parses the formula, reads the assumed literals, opens the streams of round 1, and checks the
-/// rounds. The call blocks as long as an operation on a file does.
-pub(crate) fn begin_and_check<T: Threads + Wait + Sync, C: Clock + Sync, F: Machine>(
+/// Opens the streams of round 1, and checks the rounds. The call blocks as long as an operation on a
+/// file does.
+pub(crate) fn open_and_check<T: Threads + Wait + Sync, C: Clock + Sync, F: Machine>(
     threads: &T,
     clock: &C,
     alloc: Global,
-    asked: Asked<'_>,
+    line: &CommandLine<'_>,
+    formula: Cow<'_, Formula>,
+    cube: &Cube,
     files: &mut F,
 ) -> Result<CheckedRound, RoundFault>
-    requires tries { asked.line.tries ≤ max_tries }
-    ensures reported { (words : List Text) (first : F) →
+    requires tries { line.now.tries ≤ max_tries }
+    ensures reported { (first : F) →
         let view = from_first (⟦<F as Viewed>⟧.view files.old) first in
-        IsCommandLineOf words asked.entry.line
-        → WasReadIn view first asked.entry.line.formula.now asked.entry.formula.items files.old
-        → IfOk result (λ last. IsReported view asked.entry.line last files.new) }
+        WereRead view line.now (cow_value formula.entry) cube.now files.old
+        → IfOk result (λ last. IsReported view line.now last files.new) }
     ensures sound { IfOk result (λ last. last.verdict ≡ Verdict.Unsatisfiable
-        → IsUnsatisfiableText asked.entry.formula.items) }
-    ensures sound_under { let read = WasRead F.opens F.Input.Source.reads (F.contents files.old) in
-        IfOk result (λ last. last.verdict ≡ Verdict.UnsatisfiableUnder
-        → IsUnsatisfiableTextWith read asked.entry.formula.items files.old
-        (assumed_at asked.entry.line)) }
+        → IsUnsatisfiable (cow_value formula.entry)) }
+    ensures sound_under { IfOk result (λ last. last.verdict ≡ Verdict.UnsatisfiableUnder
+        → IsUnsatisfiableUnder (cow_value formula.entry) cube.now) }
     ensures cause { (words : List Text) (first : F) →
         let view = from_first (⟦<F as Viewed>⟧.view files.old) first in
-        IsCommandLineOf words asked.entry.line
-        → WasReadIn view first asked.entry.line.formula.now asked.entry.formula.items files.old
+        IsCommandLineOf words line.now
+        → WereRead view line.now (cow_value formula.entry) cube.now files.old
         → IfErr result (λ failed. IsCauseIn view words failed.round failed.fault files.new) }
 {
-    let Asked {
-        line,
-        formula: bytes,
-    } = asked;
     // Laws, with no effect at run time: if no assignment satisfies a round's checkpoint, none
     // satisfies the round's formula.
     refutes_back();
     refutes_back_under();
-    let begun = match begin(threads, alloc, &line, bytes, files) {
-        Ok(begun) => begun,
+    let readers = match open_streams(threads, alloc, line.watch, files, line.streams.as_slice()) {
+        Ok(readers) => readers,
         Err(fault) => return Err(RoundFault { round: 1, fault }),
     };
-    let Beginning {
-        formula,
-        cube,
-        readers,
-    } = begun;
-    let course = Course {
-        line: &line,
-        cube: &cube,
-    };
+    let course = Course { line, cube };
     let sizes = Sizes {
         streams: readers.len() as u64,
         lines: line.lines,

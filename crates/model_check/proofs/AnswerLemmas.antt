@@ -1,7 +1,7 @@
 -- What the answers mean, and that files have one.
 use Rattle.std.proofs.Common.{◌≡◌, ◌≢◌, ◌⊎◌, ◌<◌, ◌≤◌, ◌^◌, ℕ, ℤ, pos, negsuc, neg_ℤ, Bool, true, false, Option, Some, None, Result, Ok}
 use Rattle.std.proofs.Common.{Err, List, [], ◌∷◌, ◌++◌, zero, suc, refl, sym, ap, ◌∙◌, subst, inl, inr, arith}
-use Rattle.std.specs.Prelude.{IfOk, IfErr}
+use Rattle.std.specs.Prelude.{◌↔◌, IfOk, IfErr}
 use Rattle.std.specs.List.{AllByRecursion}
 use Rattle.lrup_model.specs.Literal.{IsLiteral, max_variable}
 use Rattle.lrup_model.specs.Clause.{Clause, Has}
@@ -21,7 +21,7 @@ use Rattle.lrup_text.specs.declared.cube.CubeFault.TheVariants as cubes
 use Rattle.model_check.specs.ModelText.{IsModelText}
 use Rattle.model_check.specs.Reading.{model_in}
 use Rattle.model_check.specs.Answers.{AreConsistent, HasOneOf, IsModel, IsAnswer, IsAssumed, IsAssumedFault, AreTexts, AreAnswered}
-use Rattle.model_check.specs.Answers.{AreSatisfied, AreRefused, IsExact}
+use Rattle.model_check.specs.Answers.{AreSatisfied, AreSatisfiedBy, AreRefused, IsExact}
 use Rattle.model_check.specs.declared.answer.Answer.{Answer}
 use Rattle.model_check.specs.declared.answer.Answer.TheVariants.{Satisfies, Contradiction, UntrueClause, UntrueAssumption}
 use Rattle.model_check.specs.declared.fault.CheckFault.{CheckFault}
@@ -54,24 +54,39 @@ makes_one literals consistent (pos (suc v)) h = decided_yes (Has_cases literals 
 makes_one literals consistent (negsuc v) h =
     decided_no (Has_cases literals (pos (suc v))) (consistent (negsuc v) h) ∙ sym (is_positive-negsuc v)
 
+-- what a model is to the formula and the cube
+satisfied_by : (formula : Cnf) (cube : CubeValue) (literals : List ℤ) → IsModel formula cube literals
+    → AreSatisfiedBy formula cube literals
+satisfied_by formula cube literals model = record {
+  consistent = model.consistent;
+  some = (truth literals, All-from_Has (MakesTrue (truth literals)) literals (makes_one literals model.consistent));
+  every = λ a makes. (
+    All-map (HasOneOf literals) (IsTrueClause a) (λ clause one. (one.0, one.1, All-Has (MakesTrue a) literals one.0 makes one.2))
+        formula.clauses model.clauses,
+    All-map (Has literals) (MakesTrue a) (λ l here. All-Has (MakesTrue a) literals l makes here) cube model.assumed,
+  );
+}
+
+-- what the answer `Satisfies` says
+pub answer_satisfied : (formula : Cnf) (cube : CubeValue) (literals : List ℤ) (answer : Answer) → IsAnswer formula cube literals answer
+    → answer ≡ Satisfies → AreSatisfiedBy formula cube literals
+answer_satisfied formula cube literals answer is same =
+    satisfied_by formula cube literals (subst (IsAnswer formula cube literals) same is)
+
 pub satisfied_from : (formula_bytes : List ℕ) (cube_bytes : Option (List ℕ)) (model_bytes : List ℕ) (result : Result Answer CheckFault)
     → IfOk result (AreAnswered formula_bytes cube_bytes model_bytes) → result ≡ Ok Satisfies
     → AreSatisfied formula_bytes cube_bytes model_bytes
 satisfied_from formula_bytes cube_bytes model_bytes result ok e =
     let answered : AreAnswered formula_bytes cube_bytes model_bytes Satisfies =
     subst (λ (r : Result Answer CheckFault). IfOk r (AreAnswered formula_bytes cube_bytes model_bytes)) e ok in
-    let literals = answered.literals in
-    let model = answered.answer_is in record {
+    let by = satisfied_by answered.formula answered.cube answered.literals answered.answer_is in
+    record {
       formula = answered.formula;
       cube = answered.cube;
-      literals = literals;
+      literals = answered.literals;
       texts = answered.texts;
-      some = (truth literals, All-from_Has (MakesTrue (truth literals)) literals (makes_one literals model.consistent));
-      every = λ a makes. (
-        All-map (HasOneOf literals) (IsTrueClause a) (λ clause one. (one.0, one.1, All-Has (MakesTrue a) literals one.0 makes one.2))
-            answered.formula.clauses model.clauses,
-        All-map (Has literals) (MakesTrue a) (λ l here. All-Has (MakesTrue a) literals l makes here) answered.cube model.assumed,
-      );
+      some = by.some;
+      every = by.every;
     }
 
 -- ## one formula, one cube and one model
@@ -81,12 +96,6 @@ OneFormula = (bytes : List ℕ) (one other : Cnf) → IsFormulaText bytes one �
 
 abbrev pub NoFormulaFault : Type 0
 NoFormulaFault = (bytes : List ℕ) (f : Cnf) (fault : DimacsFault) → IsFormulaText bytes f → ¬ IsFormulaFault bytes fault
-
--- a cube over the formula's variables
-pub assumed_over : (vars : ℕ) (bytes : Option (List ℕ)) (cube : CubeValue) → IsAssumed vars bytes cube → IsCubeOver vars cube
-assumed_over vars None cube h = subst (IsCubeOver vars) (sym h) tt
-assumed_over vars (Some bytes) cube h =
-    All-from_Has (IsLiteral vars) cube (λ l here. All-Has (IsLiteral vars) h.literals l h.over ((h.set l).0 here))
 
 -- two cubes of a text are the same set
 same_cube : OneLine → CubeTextIsRead → (vars : ℕ) (bytes : Option (List ℕ)) (one other : CubeValue) → vars ≤ max_variable
@@ -142,6 +151,12 @@ answer_of_model formula cube literals (UntrueClause number) is model =
     (subst (AllByRecursion (HasOneOf literals)) is.1.whole model.clauses)))
 answer_of_model formula cube literals (UntrueAssumption l) is model =
     absurd (is.2.missing (All-Has (Has literals) cube l model.assumed is.2.assumed))
+
+-- the answer is `Satisfies` exactly for a model
+pub answer_exact : (formula : Cnf) (cube : CubeValue) (literals : List ℤ) (answer : Answer) → IsAnswer formula cube literals answer
+    → (answer ≡ Satisfies) ↔ IsModel formula cube literals
+answer_exact formula cube literals answer is =
+    (λ same. subst (IsAnswer formula cube literals) same is, answer_of_model formula cube literals answer is)
 
 -- ## texts have no fault
 

@@ -73,6 +73,15 @@ IsAnswer formula cube literals (UntrueAssumption l) =
     AreConsistent literals × AllByRecursion (HasOneOf literals) formula.clauses
     × IsFirstMissing cube literals l
 
+-- The theorem, of a formula, a cube and literals: no literal stands beside its complement, some
+-- assignment makes all the literals true, and every assignment that does makes every clause of the
+-- formula and every literal of the cube true.
+pub record AreSatisfiedBy (formula : Cnf) (cube : CubeValue) (literals : List ℤ) : Type 0 where
+  pub consistent : AreConsistent literals
+  pub some : (assignment : Assignment) × MakesAllTrue assignment literals
+  pub every : (assignment : Assignment) → MakesAllTrue assignment literals
+      → SatisfiesAll assignment formula × MakesAllTrue assignment cube
+
 -- what is said of three files
 
 -- the borrowed bytes, if any

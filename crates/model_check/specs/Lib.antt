@@ -4,3 +4,4 @@ pub mod Answers
 pub mod FaultSources
 pub mod Laws
 pub mod internal
+pub mod lemmas

@@ -1,10 +1,10 @@
 //! Evaluates the clauses and the assumed literals under a model's literals.
-ghost use Rattle.std.specs.Prelude.{◌≡◌, ◌↔◌, ◌+◌, ◌≤◌, ◌<◌, ℤ, List, IsTrue, IfOk, MatchOption, length};
+ghost use Rattle.std.specs.Prelude.{◌≡◌, ◌↔◌, ◌+◌, ◌≤◌, ◌<◌, ℤ, List, IsTrue, IfOk, MatchOption, Ok, length};
 ghost use Rattle.std.specs.List.{AllByRecursion};
 ghost use Rattle.lrup_model.specs.Literal.{IsLiteral, max_variable};
 ghost use Rattle.lrup_model.specs.Clause.{Has};
 ghost use Rattle.lrup_model.specs.Cube.{IsCubeOver};
-ghost use Rattle.model_check.specs.Answers.{AreConsistent, HasOneOf, IsAnswer, IsFirstMissing, IsFirstUntrue};
+ghost use Rattle.model_check.specs.Answers.{AreConsistent, AreSatisfiedBy, HasOneOf, IsAnswer, IsFirstMissing, IsFirstUntrue, IsModel};
 ghost use Rattle.model_check.specs.internal.Marks.{AreMarked};
 
 use crate::answer::Answer;
@@ -12,8 +12,11 @@ use crate::marks::{is_marked, mark_all, no_marks};
 use lrup_model::{Cube, Formula, Lit};
 use std::alloc::{AllocError, Global};
 
-/// What the literals are to the formula and the assumed literals.
-pub(crate) fn evaluate(
+/// What the literals are to the formula and the assumed literals: the evaluation of `check_model`,
+/// for a caller who has read all three. The literals may stand in any order and more than once, and
+/// variables may be missing. The only failure is that memory is refused: the call takes two bytes
+/// for each variable.
+pub fn evaluate(
     alloc: Global,
     formula: &Formula,
     cube: &Cube,
@@ -21,7 +24,13 @@ pub(crate) fn evaluate(
 ) -> Result<Answer, AllocError>
     requires over { IsCubeOver formula.now.vars cube.now }
     requires within { AllByRecursion (IsLiteral formula.now.vars) literals.now }
-    ensures { IfOk result (IsAnswer formula.now cube.now literals.now) }
+    // What a user relies on.
+    ensures satisfied { result ≡ Ok Answer.Satisfies
+        → AreSatisfiedBy formula.now cube.now literals.now }
+    ensures exact { IfOk result (λ answer.
+        (answer ≡ Answer.Satisfies) ↔ IsModel formula.now cube.now literals.now) }
+    // Each answer.
+    ensures answer { IfOk result (IsAnswer formula.now cube.now literals.now) }
 {
     let vars = formula.vars();
     let mut marks = no_marks(alloc, vars)?;

@@ -17,7 +17,7 @@ mod text;
 pub use answer::Answer;
 use dimacs::laws::{formula_or_fault, one_formula};
 use dimacs::parse;
-use evaluation::evaluate;
+pub use evaluation::evaluate;
 pub use fault::{CheckFault, ModelFault};
 use lrup_model::Cube;
 use lrup_text::laws::{a_cube_has_no_text_fault, a_cube_text_is_read, a_text_spells_one_line};

@@ -1,5 +1,6 @@
 //! Worked formulas, assumptions and models: the answer, or why a file is refused.
-use model_check::{Answer, CheckFault, check_model};
+use lrup_model::{Cube, Formula, Lit};
+use model_check::{Answer, CheckFault, check_model, evaluate};
 use std::alloc::{AllocError, Global};
 use std::fmt::Write;
 use std::process::Abort;
@@ -224,6 +225,43 @@ fn many_literals(rt: HostRuntime) -> Result<(), Fail> {
 fn memory_text(rt: HostRuntime) -> Result<(), Fail> {
     let text = CheckFault::Memory.to_string(rt.alloc())?;
     assert_eq!(rt; text.as_str(), "out of memory");
+    Ok(())
+}
+
+/// The answer for one literal of the formula with the clause `1`, under a cube over its variable.
+fn of_one(
+    rt: &(impl Abort + AllocGlobal),
+    cube: &Cube,
+    literal: i64,
+    wanted: &str,
+) -> Result<(), Fail> {
+    let alloc = rt.alloc();
+    let (Some(one), Some(l)) = (Lit::new(1), Lit::new(literal)) else {
+        return Ok(());
+    };
+    let mut formula = Formula::new(alloc, 1);
+    formula.push(&[one])?;
+    if l.var() > formula.vars() || cube.vars() > formula.vars() {
+        return Ok(());
+    }
+    let answer = evaluate(alloc, &formula, cube, &[l])?;
+    let found = answer_shown(alloc, answer)?;
+    assert_eq!(rt; found.as_str(), wanted);
+    Ok(())
+}
+
+/// Literals that a caller has, without a text of them.
+#[test]
+fn evaluated_literals(rt: HostRuntime) -> Result<(), Fail> {
+    let alloc = rt.alloc();
+    let none = Cube::empty(alloc);
+    of_one(&rt, &none, 1, "satisfies")?;
+    of_one(&rt, &none, -1, "clause 1")?;
+    if let Some(not_one) = Lit::new(-1) {
+        let cube = Cube::of(alloc, &[not_one])?;
+        of_one(&rt, &cube, 1, "assumption -1")?;
+        of_one(&rt, &cube, -1, "clause 1")?;
+    }
     Ok(())
 }
 

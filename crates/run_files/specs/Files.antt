@@ -150,24 +150,20 @@ abbrev pub IsFormulaAt : (files : FilesView) → Text → Cnf → files.its.Stat
 IsFormulaAt files path formula after =
     (bytes : List ℕ) × WasReadIn files files.first path bytes after × IsFormulaText bytes formula
 
+-- What a command line names was read: the formula from its file, the first to be opened, and then
+-- the assumed literals, if there is a file of them.
+pub record WereRead (files : FilesView) (given : CommandLine) (formula : Cnf) (cube : CubeValue)
+    (after : files.its.State) : Type 0 where
+  pub next : files.its.State
+  pub is_formula : IsFormulaAt files given.formula.now formula next
+  pub assumed : AreAssumed (WasReadIn files) formula.vars next (assumed_at given) cube after
+
 -- The files at the paths were opened as these readers, in order. If a file's contents are known,
 -- its reader has all of them left.
 pub record StreamsOpened (its : Effects) (before : its.State) (paths : List Text)
     (readers : List its.Reader) (after : its.State) : Type 0 where
   pub opened : AreOpened its.opens before paths readers after
   pub left : map its.reading.left readers ≡ map (its.contents before) paths
-
--- A run has begun: the assumed literals were read, and then the streams of the command line were
--- opened.
-pub record HasBegun (files : FilesView) (given : CommandLine) (formula : Cnf) (cube : CubeValue)
-    (next : files.its.State) (readers : List files.its.Reader) (last : files.its.State) : Type 0
-  where
-    pub later : files.its.State
-    pub assumed : AreAssumed (WasReadIn files) formula.vars next (assumed_at given) cube later
-    pub opened : AreOpened files.its.opens later given.streams readers last
-    pub left : map files.its.reading.left readers
-        ≡ map files.contents given.streams
-    pub known : files.its.contents later ≡ files.contents
 
 -- the sizes of the next round: the old sizes if there is no file of sizes; otherwise the sizes
 -- whose text was read from that file

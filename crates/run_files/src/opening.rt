@@ -1,40 +1,38 @@
 //! Reads the files that the words name, and opens the streams.
-ghost use Rattle.std.specs.Prelude.{◌≡◌, ◌≢◌, ◌<◌, false, IfErr, IfOk, List, Some, map};
+ghost use Rattle.std.specs.Prelude.{◌≡◌, ◌<◌, false, IfErr, IfOk, Some, map};
 ghost use Rattle.std.specs.List.{AllByRecursion};
 ghost use Rattle.std.specs.Option.{ForSome};
 ghost use Rattle.clap.specs.Walk.{texts};
 ghost use Rattle.command_line.specs.CommandLine.{IsCommandLineOf};
-ghost use Rattle.dimacs.specs.FormulaFault.{IsFormulaFault};
-ghost use Rattle.dimacs.specs.FormulaText.{IsFormulaText};
 ghost use Rattle.lrup_text.specs.Reads.{GaveAll};
-ghost use Rattle.run_files.specs.Files.{AreAssumed, AreOpened, HasBegun, WasReadIn, from_first};
-ghost use Rattle.run_files.specs.Causes.{IsAssumeCause, IsCause, IsFileCause, IsOpenCause};
+ghost use Rattle.run_files.specs.Files.{AreAssumed, AreOpened, IsFormulaAt, WasReadIn, WereRead};
+ghost use Rattle.run_files.specs.Causes.{IsAssumeCause, IsCause, IsFileCause, IsOpenCause, IsReadCause};
 ghost use Rattle.run_files.specs.internal.Reading.{IsFailedRead, of_cube_file};
-ghost use Rattle.run_files.specs.Asked.{Text, path_of};
+ghost use Rattle.run_files.specs.Asked.{path_of};
 ghost use Rattle.stream_check.specs.Readings.{readers_view};
 
 use crate::fault::CommandFault;
 use crate::files::{Machine, OpenFault, Viewed};
 use crate::watching::open_watched;
 use command_line::{CommandLine, read_words};
-use dimacs::DimacsFault;
 use lrup_model::{Cube, Formula};
 use lrup_text::{PIECE, Source, read_cube};
 use std::alloc::Global;
 use std::sync::Wait;
 use std::thread::Threads;
 
-/// A command line, and the bytes of its formula's file.
+/// A command line, and what was read from the files of its formula and of its assumed literals.
 #[derive(Drop)]
 pub struct Asked<'a> {
     /// What the words ask for.
     pub line: CommandLine<'a>,
-    /// The bytes of the formula's file.
-    pub formula: Vec<u8>,
+    pub formula: Formula,
+    /// The assumed literals.
+    pub cube: Cube,
 }
 
-/// Parses the words, and reads the formula's file. It blocks as long as an operation on the file
-/// does.
+/// Parses the words, reads the formula's file and parses it, and then reads and parses the file of
+/// the assumed literals, if there is one. It blocks as long as an operation on a file does.
 pub fn read_asked<'a, T: Threads + Wait + Sync, F: Machine>(
     threads: &T,
     alloc: Global,
@@ -42,63 +40,37 @@ pub fn read_asked<'a, T: Threads + Wait + Sync, F: Machine>(
     files: &mut F,
 ) -> Result<Asked<'a>, CommandFault>
     ensures line { IfOk result (λ asked. IsCommandLineOf (texts words.now) asked.line) }
-    ensures bytes { IfOk result (λ asked. WasReadIn (⟦<F as Viewed>⟧.view files.old) files.old
-        asked.line.formula.now asked.formula.items files.new) }
+    ensures read { IfOk result (λ asked. WereRead (⟦<F as Viewed>⟧.view files.old) asked.line
+        asked.formula asked.cube files.new) }
     ensures cause { IfErr result (λ fault. IsCause (⟦<F as Viewed>⟧.view files.old)
         (texts words.now) fault files.new) }
     ensures stays { F.contents files.new ≡ F.contents files.old }
 {
     let line = read_words(alloc, words)?;
-    let formula = read_file(threads, alloc, line.watch, files, line.formula)?;
-    Ok(Asked { line, formula })
-}
-
-/// What a run begins with.
-#[derive(Drop)]
-pub struct Beginning<R: Drop> {
-    pub formula: Formula,
-    pub cube: Cube,
-    /// The streams, in order.
-    pub readers: Vec<R>,
-}
-
-/// Parses the formula, reads the assumed literals, and opens the streams of the command line. It
-/// blocks as long as an operation on a file does.
-pub fn begin<T: Threads + Wait + Sync, F: Machine>(
-    threads: &T,
-    alloc: Global,
-    line: &CommandLine<'_>,
-    bytes: Vec<u8>,
-    files: &mut F,
-) -> Result<Beginning<F::Input>, CommandFault>
-    ensures formula { IfOk result (λ begun. IsFormulaText bytes.items begun.formula) }
-    ensures begun { IfOk result (λ begun. HasBegun (⟦<F as Viewed>⟧.view files.old) line.now
-        begun.formula begun.cube files.old begun.readers.items files.new) }
-    ensures running { IfOk result (λ begun.
-        AllByRecursion (λ r. F.Input.Source.has_failed r ≡ false) begun.readers.items) }
-    ensures cause { (words : List Text) (first : F) →
-        let view = from_first (⟦<F as Viewed>⟧.view files.old) first in
-        IsCommandLineOf words line.now
-        → WasReadIn view first line.now.formula.now bytes.items files.old
-        → IfErr result (λ fault. IsCause view words fault files.new) }
-{
-    let formula = parse_text(alloc, bytes)?;
+    let formula = read_formula(threads, alloc, &line, files)?;
     let cube = read_assumed(threads, alloc, line.watch, files, line.assume, &formula)?;
-    let readers = open_streams(threads, alloc, line.watch, files, line.streams.as_slice())?;
-    Ok(Beginning {
+    Ok(Asked {
+        line,
         formula,
         cube,
-        readers,
     })
 }
 
-/// Parses a formula, and frees its text.
-fn parse_text(alloc: Global, bytes: Vec<u8>) -> Result<Formula, DimacsFault>
-    ensures formula { IfOk result (λ formula. IsFormulaText bytes.items formula) }
-    ensures fault { IfErr result
-        (λ fault. fault ≢ DimacsFault.Memory → IsFormulaFault bytes.items fault) }
+/// Opens, reads and parses the formula's file, and frees its text.
+fn read_formula<T: Threads + Wait + Sync, F: Machine>(
+    threads: &T,
+    alloc: Global,
+    line: &CommandLine<'_>,
+    files: &mut F,
+) -> Result<Formula, CommandFault>
+    ensures formula { IfOk result (λ formula. IsFormulaAt (⟦<F as Viewed>⟧.view files.old)
+        line.now.formula.now formula files.new) }
+    ensures cause { IfErr result (λ fault. IsReadCause (⟦<F as Viewed>⟧.view files.old)
+        line.now fault files.new) }
+    ensures stays { F.contents files.new ≡ F.contents files.old }
 {
-    dimacs::parse(alloc, &bytes)
+    let bytes = read_file(threads, alloc, line.watch, files, line.formula)?;
+    Ok(dimacs::parse(alloc, &bytes)?)
 }
 
 /// Opens, reads and parses the file of the assumed literals, whose variables must be the formula's.
@@ -199,8 +171,8 @@ fn read_all<W: Wait, S: Source>(
     Ok(bytes)
 }
 
-/// Opens the files of the streams, in order.
-pub(crate) fn open_streams<T: Threads + Wait + Sync, F: Machine>(
+/// Opens the files of the streams, in order. It blocks as long as an operation on a file does.
+pub fn open_streams<T: Threads + Wait + Sync, F: Machine>(
     threads: &T,
     alloc: Global,
     watch: bool,

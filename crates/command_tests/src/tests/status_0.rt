@@ -1,21 +1,27 @@
-//! What status 0 means for files whose bytes are known to contracts, and for a file that changes
-//! after its first opening.
-ghost use Rattle.std.specs.Prelude.{◌≡◌, [], ◌∷◌, IsTrue, None, codes};
+//! What status 0 means for files whose bytes are known to contracts, for a file that changes after
+//! its first opening, and for a formula that is lent.
+ghost use Rattle.std.specs.Prelude.{◌≡◌, ◌≤◌, [], ◌∷◌, IsTrue, None, codes};
 ghost use Rattle.run_files.specs.declared.files.OpenFault.TheVariants.{NotOpened};
 ghost use Rattle.command_line.specs.CommandLine.{IsCommandLineOf};
 ghost use Rattle.command_line.specs.declared.words.CommandLine.{CommandLine};
 ghost use Rattle.dimacs.specs.FormulaText.{IsFormulaText};
 ghost use Rattle.lrup_model.specs.Entailment.{IsUnsatisfiable};
 ghost use Rattle.lrup_model.specs.Formula.{Cnf};
+ghost use Rattle.stream_check.specs.StreamParams.{max_tries};
 
 use super::shelf::OpenFile;
+use super::shelf::Thing::Text;
 use super::watching::Watcher;
 use super::*;
 use crate::exact_files::ExactFiles;
-use command::{Files, Machine, OpenFault};
+use command::{Files, Machine, OpenFault, check_formula};
 use command_line::laws::plain_words;
+use command_line::{CommandLine, read_words};
+use lrup_model::{Cube, Formula};
 use lrup_text::WriteFault;
 use outcome_laws::laws::status_0_has_a_command_line;
+use std::borrow::Cow;
+use test_support::four_clauses;
 
 /// Whether the program ends with status 0. If it does, the formula's text describes a formula that
 /// no assignment satisfies.
@@ -134,4 +140,51 @@ fn a_formula_that_changes(rt: HostRuntime) {
         refutes_the_first(&rt, rt.alloc(), REFUTES, FOUR),
         false,
     );
+}
+
+/// Whether a run refutes a formula that is lent to it. If it does, no assignment satisfies the
+/// formula.
+fn refutes_lent<T: Threads + Wait + Sync + Clock>(
+    rt: &T,
+    alloc: Global,
+    line: &CommandLine<'_>,
+    formula: &Formula,
+    setup: Setup,
+) -> bool
+    requires { line.now.tries ≤ max_tries }
+    ensures { IsTrue result → IsUnsatisfiable formula.now }
+{
+    let cube = Cube::empty(alloc);
+    let mut files = Shelf::new(alloc, setup);
+    let mut out = Paper::new(alloc, 7, 0);
+    let mut err = Paper::new(alloc, 7, 0);
+    let lent = Cow::Borrowed(formula);
+    check_formula(
+        rt, rt, alloc, line, lent, &cube, &mut files, &mut out, &mut err,
+    ) == 0
+}
+
+/// Several runs, also in rounds, check one formula, which is still there after them.
+#[test]
+fn a_formula_that_is_lent(rt: HostRuntime) -> Result<(), Fail> {
+    let alloc = rt.alloc();
+    let formula = four_clauses(alloc)?;
+    for way in &WAYS {
+        let once = [*way, "f", "1"];
+        let line = read_words(alloc, &once)?;
+        let refutes = |streams| refutes_lent(&rt, alloc, &line, &formula, Setup::of(streams));
+        same(&rt, (*way, refutes(&[REFUTES])), (*way, true));
+        same(&rt, (*way, refutes(&[ADDS])), (*way, false));
+        let rounds = [*way, "--rounds", "d", "f", "1"];
+        let line = read_words(alloc, &rounds)?;
+        let later = [("d/round-2.stream-1", Text("6 0 5 3 4 0\n"))];
+        let setup = Setup::of(&[ADDS]).with(&later);
+        same(
+            &rt,
+            (*way, refutes_lent(&rt, alloc, &line, &formula, setup)),
+            (*way, true),
+        );
+    }
+    same(&rt, formula.len(), 4);
+    Ok(())
 }

@@ -1,6 +1,6 @@
 use Rattle.std.proofs.Common.{ℕ, subst}
 use Rattle.model_check.specs.Answers.{IsAssumed, bytes_of}
-use Rattle.model_check.proofs.AnswerLemmas.{assumed_over}
+use Rattle.model_check.specs.lemmas.CubeLemmas.{assumed_over}
 use Rattle.model_check.proofs.check_files.Goals as goal
 
 pub evaluate-requires-clause-over : goal.evaluate-requires-clause-over

@@ -14,9 +14,9 @@ pub returns-in-Ok-clause-sound_under : goal.returns-in-Ok-clause-sound_under
 returns-in-Ok-clause-sound_under g c eight = c.in-Ok.ensures.sound_under (eight_is _ _ _ (sym c.report.ensures.status ∙ eight))
 
 pub returns-in-Ok-clause-ends : goal.returns-in-Ok-clause-ends
-returns-in-Ok-clause-ends g c words first good at =
+returns-in-Ok-clause-ends g c words first good were =
     let last = c.in-Ok.last in
-    let reported = c.in-Ok.ensures.reported words first good at in
+    let reported = c.in-Ok.ensures.reported first were in
     let round = reported.round in
     let is = reported.is in
     let failed = g.O.Sink.has_failed c.report.new.out in
@@ -29,7 +29,7 @@ returns-in-Ok-clause-ends g c words first good at =
     ∙ ap (λ (v : Verdict). report_status failed round.unsaved v) is.verdict in
     let said = subst (λ (n : ℕ). SaysOfRound n failed last.unsaved errors) is.number c.report.ensures.said in
     inl (record {
-      given = c.args.asked.line;
+      given = c.args.line.now;
       command_line = good;
       cube = reported.cube;
       last = round;
@@ -42,10 +42,10 @@ returns-in-Ok-clause-ends g c words first good at =
     })
 
 pub returns-in-Err-clause-ends : goal.returns-in-Err-clause-ends
-returns-in-Err-clause-ends g c words first good at = inr (record {
+returns-in-Err-clause-ends g c words first good were = inr (record {
   number = c.in-Err.failed.round;
   fault = c.in-Err.failed.fault;
-  cause = c.in-Err.ensures.cause words first good at;
+  cause = c.in-Err.ensures.cause words first good were;
   untouched = record { written = search rules; failed = c.requires.out };
   said = c.say.ensures.said c.requires.err;
   status_is = c.say.ensures.status;

@@ -1,6 +1,6 @@
 use Rattle.std.proofs.Common.{ℕ, List, Option, inl, inr, refl, rules, subst}
 use Rattle.clap.specs.Walk.{texts}
-use Rattle.run_files.specs.Files.{FilesView, WasReadIn, files_view}
+use Rattle.run_files.specs.Files.{FilesView, WereRead, files_view}
 use Rattle.command.specs.Commands.{change}
 use Rattle.run_files.specs.Asked.{Text}
 use Rattle.command.specs.Rounds.{ProgramEnds}
@@ -13,16 +13,15 @@ pub returns-in-Ok-clause-sound : goal.returns-in-Ok-clause-sound
 returns-in-Ok-clause-sound g c zero =
     let asked = c.in-Ok.asked in
     let files = files_view g.F.Files g.F.Machine g.F.Input.Source g.F.Output.Sink c.args.files.now in
-    names_unsatisfiable files (texts c.args.words.now) asked.line asked.formula.items c.read_asked.new.files
-    c.in-Ok.ensures.line c.in-Ok.ensures.bytes (c.check_formula.ensures.sound zero)
+    names_unsatisfiable files (texts c.args.words.now) asked.line asked.formula asked.cube c.read_asked.new.files
+    c.in-Ok.ensures.line c.in-Ok.ensures.read (c.check_formula.ensures.sound zero)
 
 pub returns-in-Ok-clause-sound_under : goal.returns-in-Ok-clause-sound_under
 returns-in-Ok-clause-sound_under g c eight =
     let asked = c.in-Ok.asked in
     let files = files_view g.F.Files g.F.Machine g.F.Input.Source g.F.Output.Sink c.args.files.now in
-    let next = c.read_asked.new.files in
-    names_unsatisfiable_under files (texts c.args.words.now) asked.line asked.formula.items next (g.F.Files.contents next)
-    c.in-Ok.ensures.stays c.in-Ok.ensures.line c.in-Ok.ensures.bytes (c.check_formula.ensures.sound_under eight)
+    names_unsatisfiable_under files (texts c.args.words.now) asked.line asked.formula asked.cube c.read_asked.new.files
+    c.in-Ok.ensures.line c.in-Ok.ensures.read (c.check_formula.ensures.sound_under eight)
 
 pub returns-in-Ok-clause-ends : goal.returns-in-Ok-clause-ends
 returns-in-Ok-clause-ends g c =
@@ -36,10 +35,10 @@ returns-in-Ok-clause-ends g c =
     change g.O.Sink c.args.out.now c.check_formula.new.out in
     let errors =
     change g.E.Sink c.args.err.now c.check_formula.new.err in
-    let Told : (Text → Option (List ℕ)) → Type 0 = λ t. WasReadIn (view t) first asked.line.formula.now asked.formula.items next
+    let Told : (Text → Option (List ℕ)) → Type 0 = λ t. WereRead (view t) asked.line asked.formula asked.cube next
     → ProgramEnds (view t) words c.check_formula.new.files output errors c.check_formula.result in
     let ends = c.check_formula.ensures.ends words first c.in-Ok.ensures.line in
-    subst Told c.in-Ok.ensures.stays ends c.in-Ok.ensures.bytes
+    subst Told c.in-Ok.ensures.stays ends c.in-Ok.ensures.read
 
 pub returns-in-Ok-clause-saved : goal.returns-in-Ok-clause-saved
 returns-in-Ok-clause-saved g c = all_saved _ _ _ _ _ _ (returns-in-Ok-clause-ends g c)

@@ -1,4 +1,5 @@
 use Rattle.std.proofs.Common.{◌<◌, arith, length, refl, subst}
+use Rattle.std.specs.Cow.{cow_value}
 use Rattle.run_files.specs.Asked.{created_path, run_params_by}
 use Rattle.run_files.specs.Files.{effects_of}
 use Rattle.stream_check.specs.Streams.{RunParamsValue}
@@ -14,7 +15,7 @@ returns-in-Err-clause-cause g c before created =
     let line = c.args.course.now.line.now in
     let cube = c.args.course.now.cube.now in
     let round = c.args.round in
-    let f = round.formula in
+    let f = cow_value round.formula in
     let readers = round.readers.items in
     let after = c.discard_it.new.files in
     let path = created_path line.next round.number in
@@ -22,7 +23,8 @@ returns-in-Err-clause-cause g c before created =
     let unused = left_unused its before c.args.files.now after path c.args.output created c.discard_it.ensures in
     let fault = c.in-Err.fault in
     run_start its line.serial f (run_params_by line cube f round.sizes) readers before path fault after c.requires.layout
-    (subst (λ (p : RunParamsValue). IsRunCause its.reading line.serial f p readers fault) params c.in-Err.ensures.cause) unused
+    (subst (λ (p : RunParamsValue). IsRunCause its.reading line.serial f p readers fault) params
+    (rw c.as_ref.ensures at c.in-Err.ensures.cause)) unused
 
 pub close_round-result-requires-clause-streams : goal.close_round-result-requires-clause-streams
 close_round-result-requires-clause-streams g c =
@@ -35,10 +37,10 @@ returns-clause-found g c before created =
     let line = c.args.course.now.line.now in
     let cube = c.args.course.now.cube.now in
     let round = c.args.round in
-    let f = round.formula in
+    let f = cow_value round.formula in
     let readers = round.readers.items in
     let run = c.in-Ok.run' in
     let params = run_params_same f line cube cube c.args.options round.sizes (length readers) c.requires.options refl c.requires.count in
     c.close_round-result.ensures.found f readers before c.requires.count
     (subst (λ (p : RunParamsValue). IsCheckResult its.reading line.serial f p readers run.reports.items run.verdict run.clauses
-    run.dropped.items) params c.in-Ok.ensures.result_is) created
+    run.dropped.items) params (rw c.as_ref.ensures at c.in-Ok.ensures.result_is)) created

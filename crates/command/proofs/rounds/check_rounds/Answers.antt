@@ -1,5 +1,6 @@
 use Rattle.std.proofs.Common.{◌+◌, ◌∙◌, ℕ, arith, Ok, Option, ap, inl, inr, refl, subst, sym}
 use Rattle.lrup_model.specs.Formula.{Cnf}
+use Rattle.std.specs.Cow.{cow_value}
 use Rattle.command_line.specs.CommandLine.{rounds_of}
 use Rattle.command_line.specs.declared.sizes.Sizes.{Sizes}
 use Rattle.run_files.specs.Causes.{IsRoundStartCause}
@@ -19,9 +20,9 @@ returns-in_default g c =
     let cube = c.args.course.now.cube.now in
     record {
       finished = λ first opened.
-          ends_alone its line cube round.formula first checked.last checked.next c.check_round.new.files
+          ends_alone its line cube (cow_value round.formula) first checked.last checked.next c.check_round.new.files
           (once_of line.next c.in_default.not-Rounds)
-          (agrees_first its line cube round.formula first checked.last checked.next c.args.files.now c.check_round.new.files
+          (agrees_first its line cube (cow_value round.formula) first checked.last checked.next c.args.files.now c.check_round.new.files
           round.readers.items (of.number ∙ c.requires.one) opened of.found (of.sizes ∙ c.requires.sizes));
       cause = λ first opened. tt;
     }
@@ -34,7 +35,7 @@ loop-number-init g c =
     let round = c.args.round in
     record {
       so_far = λ first opened.
-          agrees_first its c.args.course.now.line.now c.args.course.now.cube.now round.formula first checked.last checked.next
+          agrees_first its c.args.course.now.line.now c.args.course.now.cube.now (cow_value round.formula) first checked.last checked.next
           c.args.files.now c.check_round.new.files round.readers.items (of.number ∙ c.requires.one) opened of.found
           (of.sizes ∙ c.requires.sizes);
       number = omega (arith, of.number, c.requires.one);
@@ -47,7 +48,7 @@ returns-in-None-clause-finished g c first opened =
     let line = c.args.course.now.line.now in
     let cube = c.args.course.now.cube.now in
     let now = c.loop-number in
-    let formula = c.args.round.formula in
+    let formula = cow_value c.args.round.formula in
     ends_barred its line cube formula first now.last now.files
     (subst (λ (n : Option Cnf). RoundsSoFar its line cube formula first now.last n now.files) c.in-None.is
     (now.invariant.so_far first opened))
@@ -59,7 +60,7 @@ returns-in-Ok-None-clause-finished g c first opened =
     let line = c.args.course.now.line.now in
     let cube = c.args.course.now.cube.now in
     let now = c.loop-number in
-    let formula = c.args.round.formula in
+    let formula = cow_value c.args.round.formula in
     ends_without its line cube formula first now.last c.in-Some.formula now.files c.next_round.new.files c.in-Rounds.folder.now
     (ap rounds_of c.in-Rounds.is)
     (subst (λ (n : Option Cnf). RoundsSoFar its line cube formula first now.last n now.files) c.in-Some.is
@@ -73,7 +74,7 @@ returns-in-Err-next_round-clause-cause g c first opened =
     let line = c.args.course.now.line.now in
     let cube = c.args.course.now.cube.now in
     let now = c.loop-number in
-    let formula = c.args.round.formula in
+    let formula = cow_value c.args.round.formula in
     inr (fails_after its line cube formula first now.last c.in-Some.formula now.files
     c.next_round.new.files _ c.in-Rounds.folder.now (ap rounds_of c.in-Rounds.is)
     (subst (λ (n : Option Cnf). RoundsSoFar its line cube formula first now.last n now.files) c.in-Some.is
@@ -85,7 +86,7 @@ pub returns-clause-finished : goal.returns-clause-finished
 returns-clause-finished g c first opened =
     let its = effects_of g.F.Files g.F.Machine g.F.Input.Source g.F.Output.Sink in
     let now = c.loop-number in
-    ends_high its c.args.course.now.line.now c.args.course.now.cube.now c.args.round.formula first now.last now.next now.files
+    ends_high its c.args.course.now.line.now c.args.course.now.cube.now (cow_value c.args.round.formula) first now.last now.next now.files
     (now.invariant.so_far first opened)
     (omega (arith, now.invariant.number, c.loop-number-test.false))
 
@@ -96,7 +97,8 @@ returns-in-Err-clause-cause g c first opened =
     let line = c.args.course.now.line.now in
     let cube = c.args.course.now.cube.now in
     let round = c.args.round in
-    let Cause : ℕ → Sizes → Type 0 = λ n s. IsRoundStartCause its line cube n round.formula s round.readers.items c.args.files.now
+    let formula = cow_value round.formula in
+    let Cause : ℕ → Sizes → Type 0 = λ n s. IsRoundStartCause its line cube n formula s round.readers.items c.args.files.now
     c.in-Err.fault c.check_round.new.files in
     let cause : Cause round.number round.sizes = c.in-Err.ensures.cause in
     inl (refl, subst (Cause 1) c.requires.sizes (subst (λ (n : ℕ). Cause n round.sizes) c.requires.one cause))
@@ -108,7 +110,7 @@ loop-number-preserved g c =
     let line = c.args.course.now.line.now in
     let cube = c.args.course.now.cube.now in
     let now = c.loop-number in
-    let formula = c.args.round.formula in
+    let formula = cow_value c.args.round.formula in
     let next = c.in-Ok-Some in
     record {
       so_far = λ first opened. next.ensures.so_far formula first

@@ -1,4 +1,5 @@
 use Rattle.std.proofs.Common.{◌≡◌, ◌+◌}
+use Rattle.std.specs.Cow.{cow_value}
 use Rattle.run_files.specs.Files.{StreamsOpened, effects_of}
 use Rattle.command.specs.internal.RoundProgress.{RoundsSoFar}
 use Rattle.command.proofs.rounds.check_rounds.Given as goal
@@ -10,6 +11,6 @@ invariant-loop-number g l =
           → StreamsOpened (effects_of g.F.Files g.F.Machine g.F.Input.Source g.F.Output.Sink) first l.course.line.now.streams
           l.fn.round.readers.items l.fn.files
           → RoundsSoFar (effects_of g.F.Files g.F.Machine g.F.Input.Source g.F.Output.Sink) l.course.line.now l.course.cube.now
-          l.fn.round.formula first l.last l.next l.files;
+          (cow_value l.fn.round.formula) first l.last l.next l.files;
       number : l.number ≡ l.last.number + 1;
     }

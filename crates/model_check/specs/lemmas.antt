@@ -1,0 +1,2 @@
+-- Lemmas that proofs of other crates may cite.
+pub mod CubeLemmas
