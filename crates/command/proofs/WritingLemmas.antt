@@ -14,6 +14,7 @@ use Rattle.run_files.specs.Faults.{error_text, round_error_text}
 use Rattle.run_files.specs.declared.fault.CommandFault.TheVariants as faults
 use Rattle.command.specs.Commands.{SaysOfRound, SinkChange, SinkTook, TakesUnlessFailed}
 use Rattle.command.specs.Rounds.{last_text, round_text}
+use Rattle.command.specs.lemmas.TakingLemmas.{took_after_text}
 
 -- if nothing was written before a text, the text is all that was written
 after_nothing : (a b c : Option (List ℕ)) (text : List ℕ) → Keeps a b → Appends b c text → Appends a c text
@@ -26,16 +27,6 @@ took_after_nothing : (failed : Bool) (a b c : Option (List ℕ)) (text : List �
     → TakesUnlessFailed failed a c text
 took_after_nothing false a b c text keeps took = after_nothing a b c text keeps took
 took_after_nothing true a b c text keeps took = (took.0, took.1, took.2, after_nothing a b c took.0 keeps took.3)
-
-took_after_text : (failed : Bool) (a b c : Option (List ℕ)) (first text : List ℕ) → Appends a b first → TakesUnlessFailed failed b c text
-    → TakesUnlessFailed failed a c (first ++ text)
-took_after_text false a b c first text one took = Appends-trans a b c first text one took
-took_after_text true a b c first text one took = (
-  first ++ took.0,
-  took.1,
-  ap (λ t. first ++ t) took.2 ∙ sym (append_assoc first took.0 took.1),
-  Appends-trans a b c first took.0 one took.3,
-)
 
 -- the change of a sink, from its parts
 abbrev changed : Option (List ℕ) → Option (List ℕ) → Bool → SinkChange

@@ -1,3 +1,4 @@
 -- Lemmas that proofs of other crates may cite.
 pub mod SavedLemmas
 pub mod OneRound
+pub mod TakingLemmas

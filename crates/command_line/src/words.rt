@@ -72,6 +72,13 @@ impl<'a> Model for Paths<'a> {
 }
 
 impl<'a> Paths<'a> {
+    /// These paths, in this order.
+    pub fn new(paths: Vec<&'a str>) -> Paths<'a>
+        ensures { result ≡ texts paths.entry.items }
+    {
+        Paths { paths }
+    }
+
     /// The paths.
     pub fn as_slice(&self) -> &[&'a str]
         ensures { texts result.now ≡ self.now }

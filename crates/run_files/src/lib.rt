@@ -14,5 +14,5 @@ pub use closing::{Closed, close_checkpoint, create_checkpoint, discard_it};
 pub use fault::CommandFault;
 pub use files::{Files, Machine, OpenFault, Viewed};
 pub use opening::{Asked, open_streams, read_asked};
-pub use round_streams::{open_round, words_of};
+pub use round_streams::{open_round, stream_paths, words_of};
 pub use sizing::sizes_of_round;

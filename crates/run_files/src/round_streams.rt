@@ -83,7 +83,7 @@ fn open_others<T: Threads + Wait + Sync, F: Machine>(
 }
 
 /// The paths of a round's streams.
-fn stream_paths(
+pub fn stream_paths(
     alloc: Global,
     folder: &str,
     number: u64,

@@ -1,0 +1,3 @@
+mod CommentLemmas
+mod EndLemmas
+mod ValueLemmas

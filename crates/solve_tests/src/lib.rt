@@ -1,0 +1,5 @@
+//! Tests of `solve`, through its public calls only.
+#![tactic(auto)]
+
+#[cfg(test)]
+mod tests;
