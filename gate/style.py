@@ -21,8 +21,8 @@ import antt
 from antt import ROOT, shown
 
 # Names from the toolchain, the system or other programs, or made up by a page.
-FOREIGN = set(("bazel glibc hugetlb mutex_round_the_store my_lemma plm_rsh_agent sha socat "
-               "veth wait_sets_the_signal").split())
+FOREIGN = set(("bazel glibc hugetlb mutex_round_the_store my_lemma no-unwinding-assertions "
+               "plm_rsh_agent sha socat unwind veth wait_sets_the_signal").split())
 # Words that codespell doesn't know.
 SPELLINGS = ("anothers", "bu", "crate", "grat", "lits", "nd", "somes")
 

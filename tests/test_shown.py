@@ -34,7 +34,9 @@ PAGES: List[Tuple[str, List[str], List[str]]] = [
     ("examples/smt/README.md", [], ["python3-z3"]),
     ("examples/cubes/README.md", [], []),
     ("examples/fifo/README.md", [], ["yosys"]),
+    ("examples/cbmc/README.md", [], []),
 ]
+CBMC = ROOT / "tests" / "support" / "cbmc.sh"   # where there is no CBMC
 
 
 class Command(NamedTuple):
@@ -102,6 +104,8 @@ def test_page(program: str, model: str, name: str, files: Sequence[str], package
     (tmp_path / "bin").mkdir()
     for path in [SOLVE, SOLVE.with_name("lrup-check"), FILTER, TRIM, EXPLAIN, LRUP_RECHECK]:
         os.symlink(path, tmp_path / "bin" / path.name)
+    if not shutil.which("cbmc"):
+        os.symlink(CBMC, tmp_path / "bin" / "cbmc")
     os.symlink(program, tmp_path / "bin" / "lrupd")
     os.symlink(model, tmp_path / "bin" / "lrup-model")
     commands = [command for command in commands_of(ROOT / name) if command.text not in NOT_RUN]
@@ -177,6 +181,17 @@ def test_show_refuses_an_answer(answer: bytes, tmp_path: Path) -> None:
     want_refused("show.awk", [formula, "-"],
                  "the answer isn't s SATISFIABLE with an assignment of this formula", tmp_path,
                  answer)
+
+
+def test_show_reads_names_of_words(tmp_path: Path) -> None:
+    """The bits follow one name, as CBMC writes them; no core has a constant."""
+    formula = written("p cnf 4 3\n1 0\n-2 3 0\n-3 0\nc x!0@1#2 1 -2 FALSE 3 TRUE\nc y TRUE\n"
+                      "c z[0] 4\nc z[1] -4\n", tmp_path)
+    answer = written("s SATISFIABLE\nv 1 -2 -3 4 0\n", tmp_path, "answer")
+    assert (output_of(run([EXAMPLES / "show.awk", formula, answer])) ==
+            "x!0@1#2 = 5'b10011\ny = 1'b1\nz = 2'b01\n")
+    core = written("p cnf 4 1\nc id 2\n-2 3 0\n", tmp_path, "core")
+    assert output_of(run([EXAMPLES / "show.awk", formula, core])) == "x!0@1#2\n"
 
 
 @pytest.mark.parametrize("text", [

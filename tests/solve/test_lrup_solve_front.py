@@ -694,6 +694,7 @@ def test_expect_and_wrong_words(words: List[str], cause: str, tmp_path: Path) ->
     ["--seed", "1"], ["--seed=x"], ["--cubes=none"], ["-j", "2"], ["-j0"], ["-qv"], ["--no-share"],
     ["--share-size", "3"], ["--memory=x"], ["--proofs", "none"], ["--core", "none"],
     ["--lrat", "none"], ["--re-hint"], ["--replace"], ["--resume=none"], ["--save-every", "1"],
+    ["--with-formula"],
     ["--solver", "%formula %proof"], ["--solver", "x"], ["--time", "5"], ["--mpi", "none"],
     ["--assume", "cube"], ["--assume", "none"], ["--expect", "sat"], ["--time", "0.000001"]],
     ids=str)

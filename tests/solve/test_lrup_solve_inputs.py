@@ -211,6 +211,46 @@ def test_a_record_has_a_copy_of_standard_input(kept: Path) -> None:
     check_again(kept)
 
 
+@pytest.mark.parametrize("is_checked", [False, True], ids=["lrup-solve", "lrup-check"])
+@pytest.mark.parametrize("assumed", [False, True], ids=["no assumptions", "assumptions"])
+def test_a_record_with_copies_of_its_inputs(assumed: bool, is_checked: bool, kept: Path,
+                                            tmp_path: Path) -> None:
+    """With --with-formula a record needs no other file, even if its inputs are removed at once."""
+    text = example("assumed.cnf").read_text() if assumed else FOUR
+    formula, cube = written(text, tmp_path), written("-2 0\n", tmp_path, "cube")
+    proof = example("assumed.lrup" if assumed else "four-clause.lrup")
+    program = [SOLVE.with_name("lrup-check")] if is_checked else [SOLVE, "-j", "1"]
+    words = [*program, "-q", "--with-formula", "--proofs", kept, *["--assume", cube] * assumed,
+             formula, *[proof] * is_checked]
+    checks = 8 if assumed else 0
+    assert in_shell('"$@"; status=$?; rm formula.cnf cube; exit $status', "sh", *words,
+                    cwd=tmp_path) == Ran(f"{VERDICTS[checks]}\n", "", checks if is_checked else 20)
+    assert (kept / "formula.cnf").read_text() == text
+    assert (kept / "assumptions").exists() == assumed
+    assert {"formula.cnf", *["assumptions"] * assumed} <= set(listed(kept))
+    done = run(["sh", kept.rename(tmp_path / "moved") / "command"])
+    assert (done.err, done.status) == ("", checks)
+
+
+def test_a_record_for_each_run(tmp_path: Path) -> None:
+    """In place of %n comes the first number for which there is no folder, or file, yet; runs that
+    begin at the same time get different ones."""
+    formula = written(FOUR, tmp_path)
+    (tmp_path / "kept-2%n").write_text("")
+    words = command(["-j", "1", "--proofs", "kept-%n%n", formula])
+    assert in_shell('for k in 1 2 3 4; do "$@" & done; wait', "sh", *words,
+                    cwd=tmp_path).out.count("s UNSATISFIABLE\n") == 4
+    assert sorted(path.name for path in tmp_path.iterdir() if path.is_dir()) == [
+        f"kept-{number}%n" for number in (1, 3, 4, 5)]
+    answer = solve(["-j", "1", "--proofs", "kept-%n%n", formula], cwd=tmp_path)
+    want_answer(answer, 20)
+    assert "the record is kept-6%n" in answer.comments
+    for number in (1, 3, 4, 5, 6):
+        check_again(tmp_path / f"kept-{number}%n")
+    want_refused(["--resume", "kept-%n", formula], "kept-%n: No such file or directory",
+                 cwd=tmp_path)
+
+
 def test_names_relative_to_another_folder(tmp_path: Path) -> None:
     """The record's command works in any folder, even if formula, checker and record were named
     relative to another one."""
@@ -634,6 +674,10 @@ def test_lrup_exact_and_lrupd_accept(text: Text, status: int, tmp_path: Path) ->
     (["--proofs", "", "formula"], "not ''"),
     (["--proofs", "formula", "formula"], "Not a directory"),
     (["--replace", "formula"], "--replace without --proofs"),
+    (["--replace", "--proofs", "%n", "formula"],
+     "--replace and %n in --proofs: each run has a folder of its own"),
+    (["--proofs", "none/%n", "formula"], "cannot make none/1: No such file or directory"),
+    (["--with-formula", "formula"], "--with-formula without --proofs or --resume"),
     (["none"], "none: No such file or directory"),
     (["a\nb"], "a\\nb': No such file or directory"),
     (["--assume", "none", "formula"], "none: No such file or directory"),

@@ -13,7 +13,7 @@ import signal
 import subprocess
 import time
 from pathlib import Path
-from typing import Callable, Mapping, Optional, Sequence
+from typing import Callable, List, Mapping, Optional, Sequence
 
 import pytest
 
@@ -147,6 +147,23 @@ def test_a_copy_in_the_record_stays(is_same: bool, tmp_path: Path) -> None:
     assert copy.exists() == is_same
     if is_same:
         formula.rename(tmp_path / "moved")
+    check_again(kept)
+
+
+@pytest.mark.parametrize("first, second", [
+    ([], ["--with-formula"]), (["--with-formula"], ["--with-formula"])], ids=["later", "always"])
+def test_a_copy_of_a_formula_that_stays(first: List[str], second: List[str], tmp_path: Path
+                                        ) -> None:
+    """Whichever run had --with-formula, the record has a copy at the end."""
+    formula, kept = generated("pigeons 7", tmp_path), tmp_path / "kept"
+    text = formula.read_bytes()
+    recorded(["-j", "2", *first, formula], kept, 1, SMALL)
+    assert (kept / "formula.cnf").exists() == bool(first)
+    if first:
+        formula = kept / "formula.cnf"
+    want_answer(solve(["-j", "2", *second, "--resume", kept, formula], tested=SMALL), 20)
+    assert (kept / "formula.cnf").read_bytes() == text
+    generated("pigeons 7", tmp_path).unlink()
     check_again(kept)
 
 

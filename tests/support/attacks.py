@@ -459,6 +459,7 @@ class Attack:
                           "assume": set() if self.is_check else {"solver"},
                           "no-share": {"cubes"}}
         needs = {"replace": {"proofs"}, "save-every": {"proofs", "resume"},
+                 "with-formula": {"proofs", "resume"},
                  "re-hint": {"core", "lrat"}, "filters": {"solver"}}
         left = [name for name in names if not refused_beside.get(name, set()) & set(names)]
         return [name for name in left if name not in needs or needs[name] & set(left)]

@@ -77,15 +77,29 @@ void Inputs::find() {
     for (const std::string &path : inputs) check_input(path);
     if (options.resumed)
         find_again(inputs);
-    else if (options.proofs)
+    else if (options.proofs) {
+        if (is_numbered(options.proofs)) {
+            numbered = make_numbered(options.proofs);
+            options.record = options.proofs = numbered.c_str();
+        }
         open_record(options.proofs, inputs, options.replace);
+    }
     formula_path = rereadable_path(inputs[0], front.formula);
     if (options.assume) assume_path = rereadable_path(inputs[1], front.assumptions);
 }
 
-// Copies the front's copy of an input into the record.
-std::string Inputs::begin_copy(const std::string &path, const char *kept_as) const {
+// Whether the record gets a copy of this input: of one that the front has copied, since it can't be
+// read again; with --with-formula of any, unless the record has it already.
+bool Inputs::is_copied(const std::string &path, const std::string &fronts,
+                       const char *kept_as) const {
+    const std::string copied = std::string(options.proofs) + "/" + kept_as;
+    return path == fronts ||
+           (options.with_formula && std::count(copies.begin(), copies.end(), copied) == 0);
+}
+
+std::string Inputs::begin_copy(const std::string &path, const char *kept_as) {
     std::string copied = std::string(options.proofs) + "/" + kept_as;
+    copies.push_back(copied);
     int file = open_input(path), copy = create_file(unfinished(copied));
     copy_file(file, kept_as, copy);
     close(file);
@@ -100,8 +114,9 @@ static void end_copy(const std::string &copied) {
 
 void Inputs::keep() {
     if (!options.proofs) return;
-    bool has_formula = formula_path == front.formula,
-         has_assumptions = options.assume && assume_path == front.assumptions;
+    bool has_formula = is_copied(formula_path, front.formula, COPY_OF_FORMULA),
+         has_assumptions =
+             options.assume && is_copied(assume_path, front.assumptions, COPY_OF_ASSUMPTIONS);
     if (has_formula) formula_path = begin_copy(formula_path, COPY_OF_FORMULA);
     if (has_assumptions) assume_path = begin_copy(assume_path, COPY_OF_ASSUMPTIONS);
     if (has_formula) end_copy(formula_path);

@@ -22,9 +22,11 @@ class Inputs {
 
     explicit Inputs(const Options &given);
     void find();  // the inputs' paths; opens the folder of --proofs
-    using Meanwhile = std::function<void(int file)>;  // runs until the file can be read
+    bool has_number() const { return !numbered.empty(); }  // the folder's name
+    using Meanwhile = std::function<void(int file)>;       // runs until the file can be read
     void read(const Meanwhile &meanwhile);
-    // Keeps in the record what can't be read again, and removes what an earlier run left there.
+    // Keeps in the record what can't be read again, or with --with-formula all inputs, and removes
+    // what an earlier run left there.
     // Call once all inputs are accepted: until then the record stays as it was.
     void keep();
     void read_formula();
@@ -39,13 +41,15 @@ class Inputs {
   private:
     std::string digest_of_formula, digest_of_assumptions;
     std::vector<std::string> copies;  // in the record, of these inputs
+    std::string numbered;             // the folder, if --proofs has %n
 
     void find_again(const std::vector<std::string> &inputs);
     std::string path_of_digests() const;
     void check_digests();
     void read_in_thread(const Meanwhile &meanwhile);
     void find_copy(const char *name, const std::string &digest);
-    std::string begin_copy(const std::string &path, const char *kept_as) const;
+    bool is_copied(const std::string &path, const std::string &fronts, const char *kept_as) const;
+    std::string begin_copy(const std::string &path, const char *kept_as);
     void read_assumptions();
     void read_cubes();
     bool read_cube(const std::string &line, bool &has_cube);

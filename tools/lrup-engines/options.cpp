@@ -9,6 +9,7 @@
 #include <cstring>
 
 #include "options.h"
+#include "record.h"
 #include "solve.h"
 #include "with_cadical.h"
 
@@ -128,6 +129,7 @@ void read_values(Options &options) {
     options.lrat = given.lrat;
     options.rehint = given.rehint;
     options.replace = given.replace;
+    options.with_formula = given.with_formula;
     options.verbose = given.verbose;
     options.quiet = given.quiet;
     options.share = !given.no_share;
@@ -203,6 +205,10 @@ Options read_words(int count, char **words) {
     if (options.rehint && !options.core && !options.lrat)
         refuse("--re-hint without --core or --lrat");
     if (options.replace && !options.proofs) refuse("--replace without --proofs");
+    if (options.replace && is_numbered(options.proofs))
+        refuse("--replace and %n in --proofs: each run has a folder of its own");
+    if (options.with_formula && !options.proofs)
+        refuse("--with-formula without --proofs or --resume");
     if (given.save_every && !options.proofs) refuse("--save-every without --proofs or --resume");
     check_engines(options);
     return options;

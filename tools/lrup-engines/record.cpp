@@ -362,6 +362,21 @@ static void check_own(const std::string &folder, const std::vector<std::string> 
     }
 }
 
+// The place in the text of the first %n, which stands for a number.
+static size_t place_of_number(const std::string &text) { return text.find("%n"); }
+
+bool is_numbered(const std::string &folder) { return place_of_number(folder) != std::string::npos; }
+
+// Runs that begin at the same time get different folders.
+std::string make_numbered(const std::string &pattern) {
+    for (uint64_t number = 1;; number++) {
+        std::string folder = pattern;
+        folder.replace(place_of_number(pattern), strlen("%n"), std::to_string(number));
+        if (mkdir(folder.c_str(), 0775) == 0) return folder;
+        if (errno != EEXIST) refuse("cannot make " + folder + ": " + error_text());
+    }
+}
+
 void open_record(const std::string &folder, const std::vector<std::string> &inputs, bool replaces) {
     if (mkdir(folder.c_str(), 0775) != 0 && errno != EEXIST)
         refuse("cannot make " + folder + ": " + error_text());

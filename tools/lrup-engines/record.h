@@ -16,10 +16,13 @@ struct Place {
 };  // for openat and the like
 
 const char LIST_OF_ROUNDS[] = "rounds.sha256";
-// inputs that can't be read again
+// inputs that can't be read again, or with --with-formula any
 const char COPY_OF_FORMULA[] = "formula.cnf", COPY_OF_ASSUMPTIONS[] = "assumptions";
 extern int record_folder;                 // open; -1: none
 Place place_of(const std::string &path);  // files of the record are named relative to record_folder
+bool is_numbered(const std::string &folder);  // whether it has %n
+// Makes the first folder that isn't there yet, with a number from 1 on in place of %n.
+std::string make_numbered(const std::string &pattern);
 // Refuses to write over these inputs.
 void open_record(const std::string &folder, const std::vector<std::string> &inputs, bool replaces);
 void open_record_again(const std::string &folder);  // of a resumed run

@@ -34,6 +34,7 @@ void Run::prepare() {
     inputs.find();
     keeping.check_outputs(true);
     display.begin();
+    if (inputs.has_number()) display.tell("the record is " + quoted(options.record));
     if (!options.check)
         display.tell_more(version() + (engines_have_hints ? ", which gives hints" : ""));
     inputs.read([this](int file) { await_formula(file); });

@@ -36,7 +36,8 @@ struct Options {
     std::string words;                            // the command line, quoted for a shell
     const char *core = nullptr, *lrat = nullptr;  // files to write
     bool rehint = false;                          // for core and LRAT text
-    bool replace = false;  // even a record with a proof, or with rounds of an unfinished run
+    bool replace = false;       // even a record with a proof, or with rounds of an unfinished run
+    bool with_formula = false;  // the record gets a copy of each input
     bool verbose = false, quiet = false;
     bool reports_progress = false;  // as lines of JSON
 
