@@ -4,6 +4,11 @@
 # is 1 in step 1, and the output counts from step 2 on. With -v induction=1 the output is 0 in each
 # step before step N, and step 1 is any step: what registers hold at first doesn't count.
 #
+# Any bit of an output with several bits counts, and so does each output whose name ends with
+# `.$fails`. One whose name ends with `.$holds` is 1 in all steps up to the one that is asked for, but
+# for step 1 if that is a reset. If CUBES in the environment names a file, a cube for each step that
+# counts is written there, below a comment with the step.
+#
 # Each gate of each step becomes three clauses. A comment `c NAME LITERAL` names each other output,
 # and each input that has a name and is used. With steps, it also names this output, and the name
 # has its step: NAME@STEP, or NAME@STEP[3] for bit 3 of a word, from 0 on. A bit that is always 0 or
@@ -27,6 +32,11 @@ function named_literal(code, step,    found) {
     return found == constant ? tied : found == -constant ? -tied : found
 }
 
+# With several outputs that count, or with assumptions, a step has a variable that is true only if
+# one of these is 1, and a variable that is true only if the assumptions hold up to this step.
+function counts_in(step) { return is_plain ? literal(asked[1], step) : tied + step }
+function holds_to(step) { return tied + last + step }
+
 function title(name, step,    bit) {
     if (steps == "") return name
     bit = match(name, /\[[0-9]+\]$/) ? substr(name, RSTART) : ""
@@ -34,7 +44,8 @@ function title(name, step,    bit) {
 }
 
 NR == 1 {
-    if ($1 != "aag" || NF > 6) stop("not ASCII AIGER with only outputs")
+    if ($1 != "aag") stop("not ASCII AIGER")
+    if (NF > 6) stop("a circuit with assert or assume, which bmc.sh is for")
     if ($4 > 0 && steps == "") stop("a circuit with registers, which bmc.sh is for")
     variables = $2
     constant = $2 * (steps == "" ? 1 : steps) + 1   # a variable that is false
@@ -56,31 +67,53 @@ NR <= 1 + gates {
     next
 }
 /^i[0-9]/ { names[substr($1, 2) + 0] = $2 }
-/^o[0-9]/ { names[substr($1, 2) + inputs] = $2 }
+/^o[0-9]/ {
+    k = substr($1, 2) + inputs
+    name = $2
+    if (sub(/\.\$holds$/, ".holds", name)) assumed[++assumptions] = codes[k]
+    else if (sub(/\.\$fails$/, ".fails", name) || name == output || name ~ /\[[0-9]+\]$/ &&
+             substr(name, 1, length(output) + 1) == output "[") asked[++questions] = codes[k]
+    if (name != $2) sub(/^.*\//, "", name)      # of the path of the file that has it
+    names[k] = name
+}
 /^c$/ { exit }
 END {
     if (status) exit status
     last = steps == "" ? 1 : steps
     first = induction ? last : reset == "" ? 1 : 2
-    asked = forced = -1
-    for (k = 0; k < inputs + named - latches; k++) {
-        if (k < inputs && names[k] == reset && reset != "") forced = k
-        if (k >= inputs && names[k] == output) asked = k
-    }
-    if (asked < 0) stop("the circuit has no output " output)
+    begin = induction ? 1 : first                   # of the assumptions
+    forced = -1
+    for (k = 0; k < inputs; k++) if (names[k] == reset && reset != "") forced = k
+    if (!questions) stop("the circuit has no output " output)
     if (reset != "" && forced < 0) stop("the circuit has no input " reset)
-    print "p cnf", tied, 3 * count * last + 3 + known + (reset != "") + (induction ? last - 1 : 0)
+    is_plain = questions == 1 && !assumptions
+    clauses = 3 * count * last + 3 + known + (reset != "")
+    if (induction) clauses += questions * (last - 1)
+    if (!is_plain) clauses += last - first + 1
+    if (assumptions) clauses += last - first + 1 + (last - begin + 1) * (assumptions + 1) - 1
+    print "p cnf", is_plain ? tied : tied + 2 * last, clauses
     for (step = 1; step <= last; step++)
         for (k = 0; k < inputs + named - latches; k++)
-            if (names[k] != "" && (k < inputs ? codes[k] in used : k != asked || steps != ""))
+            if (names[k] != "" && (k < inputs ? codes[k] in used : names[k] != output || steps != ""))
                 print "c", title(names[k], step), named_literal(codes[k], step)
     print -constant, 0
     print -tied, 0
     for (k = 1; k <= known; k++) print literal(at_first[k], 1), 0
     if (reset != "") print literal(codes[forced], 1), 0
-    for (step = 1; step < first && induction; step++) print -literal(codes[asked], step), 0
-    for (step = first; step <= last; step++) printf "%d ", literal(codes[asked], step)
+    for (step = 1; step < first && induction; step++)
+        for (k = 1; k <= questions; k++) print -literal(asked[k], step), 0
+    for (step = first; step <= last; step++) printf "%d ", counts_in(step)
     print 0
+    for (step = first; step <= last && !is_plain; step++) {
+        printf "%d ", -counts_in(step)
+        for (k = 1; k <= questions; k++) printf "%d ", literal(asked[k], step)
+        print 0
+        if (assumptions) print -counts_in(step), holds_to(step), 0
+    }
+    for (step = begin; step <= last && assumptions; step++) {
+        if (step > begin) print -holds_to(step), holds_to(step - 1), 0
+        for (k = 1; k <= assumptions; k++) print -holds_to(step), literal(assumed[k], step), 0
+    }
     for (step = 1; step <= last; step++)
         for (k = 1; k <= count; k++) {
             out = literal(gate[k], step); one = literal(left[k], step)
@@ -89,4 +122,6 @@ END {
             print -out, other, 0
             print out, -one, -other, 0
         }
+    for (step = first; step <= last && ENVIRON["CUBES"] != ""; step++)
+        print "c step " step "\na " counts_in(step) " 0" > ENVIRON["CUBES"]
 }

@@ -1,11 +1,13 @@
 #!/bin/sh
-# verilog2cnf.sh FILE.v FORMULA PASSES NAMES OPTION..: for bmc.sh and miter.sh. The PASSES of `yosys`
-# leave one module of FILE.v, NAMES has `sed` rewrite names, and aiger2cnf.awk with these options of
-# `awk` writes FORMULA. What is undefined (x) may be 0 or 1.
+# verilog2cnf.sh FILE FORMULA PASSES NAMES OPTION..: for bmc.sh and miter.sh. The PASSES of `yosys`
+# leave one module of FILE, which is SystemVerilog if its name ends with .sv. NAMES has `sed` rewrite
+# names, and aiger2cnf.awk with these options of `awk` writes FORMULA, and the file that CUBES in its
+# environment names. What is undefined (x) may be 0 or 1.
 file=$1 formula=$2 passes=$3 names=$4
 shift 4
 [ "$file" != "$formula" ] || { echo "verilog2cnf.sh: FORMULA would replace FILE.v" >&2; exit 2; }
 case $file in -?*) file=./$file ;; esac   # to yosys an option, even after --
+case $file in *.sv) language='verilog -sv -formal' ;; *) language=verilog ;; esac
 
 # A wire with two drivers, which yosys would take for one wire with both, and a loop without a
 # register are refused; a constant is a driver if a cell makes it. `opt -keepdc -noff` simplifies
@@ -32,9 +34,10 @@ if [ ! -L "$formula" ] && { [ -f "$formula" ] || [ ! -e "$formula" ]; }; then
     trap 'exit 1' HUP INT TERM
     rm -f -- "$formula" || exit
 fi
+[ ! -f "${CUBES-}" ] || rm -f -- "$CUBES" || exit
 # yosys would write its history to HOME.
 circuit=$(unset HOME
-    yosys -q -f verilog -p "$passes; $gates; $clock; write_aiger -ascii -symbols" \
+    yosys -q -f "$language" -p "$passes; $gates; $clock; write_aiger -ascii -symbols" \
         -- "$file") || exit
 printf '%s\n' "$circuit" | sed "$names" |
     awk "$@" -f "$(dirname "$0")/aiger2cnf.awk" > "$new" || exit

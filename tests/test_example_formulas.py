@@ -361,6 +361,96 @@ def test_bounded_model_checking(text: str, depth: int, induction: bool, tmp_path
     assert (values is not None) == satisfiable_by_yosys(circuit, depth, induction)
 
 
+# Step by step, and SystemVerilog.
+
+
+def first_step(circuit: Path, depth: int) -> Optional[int]:
+    """The step of the first cube of bmc.sh --to that can be satisfied."""
+    needs("cadical")
+    formula, cubes = circuit.with_name("one.cnf"), circuit.with_name("one cubes")
+    assert run([BMC, "--to", depth, circuit, formula, cubes]) == Ran("", "", 0)
+    lines = cubes.read_text().splitlines()
+    assert lines[::2] == [f"c step {step}" for step in range(2, depth + 1)]
+    header, *clauses = formula.read_text().splitlines()
+    variables, count = map(int, header.split()[2:])
+    for step, line in enumerate(lines[1::2], 2):
+        literal = line.replace("a ", "", 1)
+        one = written("\n".join([f"p cnf {variables} {count + 1}", literal, *clauses, ""]),
+                      circuit.parent, "step.cnf")
+        if run(["cadical", "-q", "-n", one]).status == 10:
+            return step
+    return None
+
+
+@pytest.mark.seeds(6)
+def test_the_first_step_of_random_circuits(seed: int, tmp_path: Path) -> None:
+    """It is the first depth at which a search through all states finds a `bad`."""
+    needs("yosys")
+    circuit = random_circuit(random.Random(seed))
+    wanted = next((depth for depth in range(2, 5) if can_be_bad(circuit, depth, False)), None)
+    assert first_step(written(circuit.text, tmp_path, "one.v"), 4) == wanted, circuit.text
+
+
+COUNTER = """module counter(input clock, input reset, input logic in, output logic [1:0] bad);
+  logic [2:0] count;
+  always_ff @(posedge clock) if (reset) count <= 0; else count <= count + in;
+  ASKED
+endmodule
+"""
+
+
+SYSTEM_VERILOG = {
+    "an assert": ("always_comb assert (count != 3); assign bad = 0;", False, 5),
+    "an assert at the clock": (
+        "always @(posedge clock) if (!reset) named: assert (count < 3); assign bad = 0;", False, 6),
+    "two asserts": ("always_comb begin assert (count < 4); assert (count != 2); end "
+                    "assign bad = 0;", False, 4),
+    "the second bit of bad": ("assign bad = {count == 3, 1'b0};", False, 5),
+    "an assert beside bad": ("always_comb assert (count != 4); assign bad = {1'b0, count == 2};",
+                             False, 4),
+    "an assume": ("always_comb assume (!in); assign bad = count;", False, None),
+    "an assume that can't hold later": (
+        "always_comb assume (in && count < 4); assign bad = count == 3;", False, 5),
+    "an assume that can't hold so long": (
+        "always_comb assume (in && count < 2); assign bad = count == 3;", False, None),
+    "an assume at the clock": (
+        "always @(posedge clock) if (!reset) assume (!in); assign bad = count == 3;", False, None),
+    "a cover": ("always_comb cover (count == 3); assign bad = 0;", False, None),
+    "FORMAL": ("`ifdef FORMAL\n  assign bad = 1;\n`else\n  assign bad = 0;\n`endif", False, 2),
+    "induction": ("always_comb assert (count != 3); assign bad = 0;", True, 2),
+    "induction with an assume": ("always_comb begin assume (!in && !reset); assert (count != 3); "
+                                 "end assign bad = 0;", True, None),
+    "induction with two bits": ("assign bad = {count == 3, in};", True, 2),
+    "induction with two bits and an assume": (
+        "always_comb assume (!in && !reset); assign bad = {count == 3, in};", True, None)}
+
+
+@pytest.mark.parametrize("asked, induction, wanted", [
+    pytest.param(*row, id=name) for name, row in SYSTEM_VERILOG.items()])
+def test_system_verilog(asked: str, induction: bool, wanted: Optional[int], tmp_path: Path) -> None:
+    needs("yosys")
+    circuit = written(COUNTER.replace("ASKED", asked), tmp_path / "a b", "one.sv")
+    if not induction:
+        assert first_step(circuit, 8) == wanted
+    formula = circuit.with_name("own.cnf")
+    assert run([BMC, *["--induction"] * induction, circuit, 2 if induction else 8, formula]
+               ) == Ran("", "", 0)
+    assert (shown(formula) is not None) == (wanted is not None)
+
+
+def test_names_of_asserts(tmp_path: Path) -> None:
+    """An assert's name is its label, or its place in the file."""
+    needs("yosys")
+    text = COUNTER.replace("ASKED",
+                           "always_comb begin assert (count < 3); one: assert (!count); end")
+    (tmp_path / "folder").mkdir()
+    formula = tmp_path / "formula"
+    assert run([BMC, written(text, tmp_path / "folder", "one.sv"), 5, formula]) == Ran("", "", 0)
+    names = set(re.findall(r"^c (\S+fails)@5 ", formula.read_text(), re.M))
+    assert len(names) == 2 and "one.fails" in names
+    assert any(re.fullmatch(r"one\.sv:4\.\S+\.fails", name) for name in names), names
+
+
 # Circuits that the scripts refuse, and what is known of a formula.
 
 TWO_CLOCKS = """module clocks(input clock, input another, input reset, input in, output bad);

@@ -3,9 +3,9 @@ examples' scripts with wrong arguments, files and answers.
 
 A command comes after '$ ' in a block that is indented by four spaces or more. If its line ends with
 a backslash, a bar or '&&', it continues on the next one. The text below it is the expected output,
-including standard error: a line '..' stands for any lines, and in a line with lrup-solve's times,
-each number stands for any other. If there is no text, any output is fine. Some commands aren't run,
-since they would prove the program: see NOT_RUN."""
+including standard error: a line '..' stands for any lines, and in a line that begins with
+lrup-solve's time, each number stands for any other. If there is no text, any output is fine. Some
+commands aren't run, since they would prove the program: see NOT_RUN."""
 import os
 import re
 import shutil
@@ -80,7 +80,7 @@ def timed(line: str) -> str:
 
 
 def is_timed(line: str) -> bool:
-    return re.match(r"c [\d,.]+ s, .* of processor time", line) is not None
+    return re.match(r"c [\d,.]+ s(: |, .* of processor time)", line) is not None
 
 
 @pytest.mark.usefixtures("lrup_solve")
@@ -136,15 +136,17 @@ USAGES: List[Tuple[str, str, List[List[str]]]] = [
     ("smt/smt2cnf.py", "smt2cnf.py PROBLEM.smt2 > FORMULA.cnf", [[], ["one", "two"]]),
     ("lemma/lemma.py", "lemma.py WIDTH LEMMA",
      [[], ["8"], ["0", "a <= b"], ["x", "a <= b"], ["8", "a <= b", "c"]]),
-    ("show.awk", "show.awk FORMULA ANSWER|CORE",
+    ("show.awk", "show.awk FORMULA ANSWER [TRACE.vcd] | show.awk FORMULA CORE",
      [[], ["formula.cnf"], ["formula.cnf", "answer", "more"]]),
     ("acl2.py", "acl2.py [--stobj] FORMULA PROOF",
      [[], ["--stobj", "f"], ["f"], ["f", "p", "x"]]),
     ("miter/miter.sh", "miter.sh FILE.v FORMULA", [[], ["x.v"]]),
-    ("fifo/bmc.sh", "bmc.sh [--induction] FILE.v DEPTH FORMULA, with 2 or more steps for DEPTH",
+    ("fifo/bmc.sh", "bmc.sh [--induction] FILE DEPTH FORMULA | bmc.sh --to DEPTH FILE FORMULA CUBES"
+     ", with 2 or more steps for DEPTH",
      [[], ["x.v", "5"], ["x.v", "x", "f"], ["x.v", "", "f"], ["x.v", "0", "f"],
       ["x.v", "5", "f", "g"], ["x.v", "-5", "f"], ["x.v", "1", "f"], ["--induction", "x.v", "5"],
-      ["--induction", "x.v", "1", "f"]]),
+      ["--induction", "x.v", "1", "f"], ["--to", "5", "x.v", "f"], ["--to", "1", "x.v", "f", "c"],
+      ["--to", "x", "x.v", "f", "c"], ["--to", "5", "x.v", "f", "c", "g"]]),
     ("cubes/waerden.py", "waerden.py K L N, with 2 or more for K and L",
      [[], ["3", "3"], ["3", "1", "9"], ["3", "x", "9"]]),
     ("cubes/split.py", "split.py COUNT FORMULA",
@@ -192,6 +194,43 @@ def test_show_reads_names_of_words(tmp_path: Path) -> None:
             "x!0@1#2 = 5'b10011\ny = 1'b1\nz = 2'b01\n")
     core = written("p cnf 4 1\nc id 2\n-2 3 0\n", tmp_path, "core")
     assert output_of(run([EXAMPLES / "show.awk", formula, core])) == "x!0@1#2\n"
+
+
+def test_show_writes_a_trace(tmp_path: Path) -> None:
+    """A VCD file: only changes; instances as scopes; x for a bit, or a step, without a name."""
+    formula = written("p cnf 3 1\nc in@1[1] 1\nc in@2[1] 1\nc a.b.c@2 -2\nc a.b.c@3 2\n"
+                      "c other 3\n-2 1 0\n", tmp_path)
+    answer = written("s SATISFIABLE\nv 1 2 -3 0\n", tmp_path, "answer")
+    trace = tmp_path / "trace.vcd"
+    assert run([EXAMPLES / "show.awk", formula, answer, trace]) == Ran("", "", 0)
+    assert trace.read_text() == """$timescale 1 ns $end
+$scope module top $end
+$var wire 2 ! in [1:0] $end
+$scope module a $end
+$scope module b $end
+$var wire 1 " c $end
+$upscope $end
+$upscope $end
+$upscope $end
+$enddefinitions $end
+#1
+b1x !
+x"
+#2
+0"
+#3
+bx !
+1"
+#4
+"""
+    assert "in@1 = 2'b1x\n" in output_of(run([EXAMPLES / "show.awk", formula, answer]))
+
+
+def test_show_refuses_a_trace_without_steps(tmp_path: Path) -> None:
+    write_all({"formula": "p cnf 1 1\nc a 1\n1 0\n", "answer": "s SATISFIABLE\nv 1 0\n"}, tmp_path)
+    want_refused("show.awk", ["formula", "answer", "trace.vcd"],
+                 "the formula has no comments with steps, 'c NAME@STEP LITERAL'", tmp_path)
+    assert not (tmp_path / "trace.vcd").exists()
 
 
 @pytest.mark.parametrize("text", [

@@ -11,7 +11,8 @@ from typing import Callable, Iterable, List, Mapping, Optional, Sequence
 
 import pytest
 
-from harness import ROOT, dimacs, example, generated, named, random_clauses, run, until, written
+from harness import (FOUR, ROOT, dimacs, example, generated, named, random_clauses, run, until,
+                     written)
 from lrat import lrat_fault
 from proof_forms import read_formula
 from solving import (EARLY, Answer, check_again, children_of, end_group, end_of, kill_children,
@@ -64,7 +65,7 @@ def solved(tmp_path: Path) -> Solved:
                         lrat, *options, formula], tested=tested)
         want_answer(answer, status, formula)
         assert answer.lost() == []
-        assert "engines take cubes" in answer.comments
+        assert ("engines take cubes" in answer.comments) != ("--cubes-in-order" in options)
         count, of_all = refuted(answer)
         assert of_all == len(cubes)
         if status == 20:
@@ -89,6 +90,53 @@ def test_answers(solved: Solved, cubes: List[List[int]], words: str, status: int
 @pytest.mark.parametrize("engines", [1, 2, 4])
 def test_rounds(solved: Solved, engines: int) -> None:
     solved("pigeons 7", SIX, 20, ["-j", engines], IN_ROUNDS)
+
+
+# Cubes in order.
+
+
+@pytest.mark.parametrize("engines, tested", [(1, {}), (2, IN_ROUNDS), (4, {"SLICE": 40})])
+@pytest.mark.parametrize("cubes", named([("covering", SIX), ("not covering", SOME)]))
+def test_all_in_order(solved: Solved, cubes: List[List[int]], engines: int,
+                      tested: Mapping[str, object]) -> None:
+    solved("pigeons 7", cubes, 20, ["-j", engines, "--cubes-in-order"], tested)
+
+
+@pytest.mark.seeds(12)
+def test_the_first_cube_that_can_be_satisfied(seed: int, tmp_path: Path) -> None:
+    """Comments name the cubes before, and the model satisfies this one. The formula has few
+    assignments, which most engines would find in another order."""
+    numbers, size = random.Random(f"{seed} cubes in order"), 12
+    clauses = random_clauses(numbers, size, 40)
+    cubes = [[variable * numbers.choice((-1, 1))
+              for variable in numbers.sample(range(1, size + 1), 4)] for _ in range(30)]
+    models = [set(signed) for signed in itertools.product(*((-k, k) for k in range(1, size + 1)))
+              if all(not set(clause).isdisjoint(signed) for clause in clauses)]
+    wanted = next((k for k, cube in enumerate(cubes) if any(model >= set(cube)
+                                                            for model in models)), None)
+    file = written("".join(f"c the {k}th\na {' '.join(map(str, cube))} 0\n"
+                           for k, cube in enumerate(cubes)), tmp_path, "cubes")
+    formula = written(dimacs(size, clauses), tmp_path)
+    answer = solve(["-j", 1 + seed % 4, "--cubes-in-order", "--cubes", file, formula])
+    want_answer(answer, 10 if models else 20, formula)
+    found = [re.sub(r"^\d+\.\d\d s: ", "", line) for line in answer.comments if "the " in line]
+    if wanted is None:
+        assert found == [f"the {k}th refuted" for k in range(30)]
+    else:
+        assert found == [*(f"the {k}th refuted" for k in range(wanted)),
+                         f"the {wanted}th satisfied"]
+        assert set(cubes[wanted]) <= set(map(int, answer.values))
+
+
+def test_names_of_cubes(tmp_path: Path) -> None:
+    """A comment right above a cube names it; a contradictory cube is left out."""
+    cubes = written("p inccnf\nc one\na 1 0\na -1 0\nc none\n\na 2 -2 0\na 2 0\nc \033[2J\na 3 0\n",
+                    tmp_path, "cubes")
+    answer = solve(["-j", "1", "--cubes-in-order", "--cubes", cubes,
+                    written(FOUR.replace("2 4", "3 4"), tmp_path)])
+    want_answer(answer, 20)
+    assert [line.partition(": ")[2] for line in answer.comments if " s: " in line] == [
+        "one refuted", "cube 2 refuted", "cube 3 refuted", "?[2J refuted"]
 
 
 def test_beside_a_solver(solved: Solved) -> None:
@@ -211,6 +259,8 @@ def test_no_file(tmp_path: Path) -> None:
 
 @pytest.mark.parametrize("options, said", [
     (["--no-share", "-j", "2"], "--cubes and --no-share: refuted cubes are shared"),
+    (["--cubes-in-order", "-j", "1", "--solver", "cadical %formula %proof"],
+     "--cubes-in-order takes only engines of this host"),
     (["--solver", "x %formula %proof"], "--cubes without engines: -j sets their number")])
 def test_options_that_exclude_cubes(options: List[str], said: str, tmp_path: Path) -> None:
     assert refusal(cubes_file([[1]], tmp_path), options) == f"lrup-solve: {said}\n"

@@ -674,6 +674,7 @@ def test_lrup_exact_and_lrupd_accept(text: Text, status: int, tmp_path: Path) ->
     (["--proofs", "", "formula"], "not ''"),
     (["--proofs", "formula", "formula"], "Not a directory"),
     (["--replace", "formula"], "--replace without --proofs"),
+    (["--cubes-in-order", "formula"], "--cubes-in-order without --cubes"),
     (["--replace", "--proofs", "%n", "formula"],
      "--replace and %n in --proofs: each run has a folder of its own"),
     (["--proofs", "none/%n", "formula"], "cannot make none/1: No such file or directory"),

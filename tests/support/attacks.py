@@ -457,9 +457,9 @@ class Attack:
         """Leaves out options that are refused beside others, or without others."""
         refused_beside = {"proofs": {"resume"}, "replace": {"resume"}, "mpi": {"solver"},
                           "assume": set() if self.is_check else {"solver"},
-                          "no-share": {"cubes"}}
+                          "no-share": {"cubes"}, "cubes-in-order": {"solver", "mpi"}}
         needs = {"replace": {"proofs"}, "save-every": {"proofs", "resume"},
-                 "with-formula": {"proofs", "resume"},
+                 "with-formula": {"proofs", "resume"}, "cubes-in-order": {"cubes"},
                  "re-hint": {"core", "lrat"}, "filters": {"solver"}}
         left = [name for name in names if not refused_beside.get(name, set()) & set(names)]
         return [name for name in left if name not in needs or needs[name] & set(left)]

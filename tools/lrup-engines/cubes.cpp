@@ -34,7 +34,8 @@ bool has_variable(const Cube &cube, int variable) {
 }  // namespace
 
 bool has_cubes(const Shared &shared, const Options &options) {
-    return options.shares() && end_of_engines(shared, options) - shared.first_here > 2;
+    return options.shares() && !options.in_order &&
+           end_of_engines(shared, options) - shared.first_here > 2;
 }
 
 // In an engine's process, up to the first process's part.
@@ -42,9 +43,11 @@ bool has_cubes(const Shared &shared, const Options &options) {
 Cubes::Cubes(const Engine &given, CaDiCaL::Solver &its_solver)
     : engine(given), solver(its_solver),
       engine_status(given.shared->engine_statuses[given.number - 1]),
-      takes(has_cubes(*given.shared, *given.options) || !given.cubes->empty()),
-      idle(!given.cubes->empty()) {
+      takes(has_cubes(*given.shared, *given.options) ||
+            (!given.options->in_order && !given.cubes->empty())),
+      idle(takes && !given.cubes->empty()) {
     if (takes && is_first()) scores.assign(size_t(engine.formula->variables) + 1, 0);
+    if (engine.options->in_order) take_next();
 }
 
 void Cubes::keep_variables() {
@@ -123,6 +126,11 @@ void Cubes::take() {
     if (number == 0) literals.clear();
 }
 
+void Cubes::take_next() {
+    literals.clear();
+    if (next < engine.cubes->size()) literals = (*engine.cubes)[next++];
+}
+
 bool Cubes::is_refuted() const {
     return std::any_of(literals.begin(), literals.end(),
                        [&](int literal) { return solver.failed(literal); });
@@ -130,8 +138,9 @@ bool Cubes::is_refuted() const {
 
 void Cubes::tell_refuted() {
     literals.clear();
-    idle = 2;
+    idle = takes ? 2 : 0;
     STORE(engine_status.refuted_cubes, engine_status.refuted_cubes + 1);
+    if (engine.options->in_order) take_next();
     STORE(engine_status.refuted_cube, number);
     events_advance(&engine.shared->events);
 }
@@ -146,6 +155,7 @@ void Dealer::open(const std::vector<Cube> &all) {
 // Cubes are halved only once all remaining engines keep the variables.
 void Dealer::deal(Shared &shared, const Options &options) {
     int end = end_of_engines(shared, options);
+    if (options.in_order) return count(shared);
     uint64_t usable = ~uint64_t(0);
     bool halves = has_cubes(shared, options) && LOAD(shared.variable_count) != 0;
     for (int k = shared.first_here; k < end; k++) {
@@ -165,6 +175,11 @@ void Dealer::deal(Shared &shared, const Options &options) {
             share_out(shared, end, engine_status, usable);
     }
     STORE(shared.cubes_left, queue.size() + elsewhere);
+}
+
+void Dealer::count(const Shared &shared) {
+    for (int k = shared.first_here; k < shared.first_here + shared.engines_here; k++)
+        refuted = std::max(refuted, LOAD(shared.engine_statuses[k].refuted_cubes));
 }
 
 // Whether the engine has no cube, or has refuted its cube; a refuted cube is counted once.

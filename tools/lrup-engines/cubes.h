@@ -10,7 +10,9 @@
 // formula.
 //
 // If the user gives cubes, all engines first take these, one after the other, and no engine
-// eliminates their variables.
+// eliminates their variables. With --cubes-in-order all engines are at the same cube, and nothing is
+// dealt out: each goes through the list, and takes over the clauses by which others refute cubes. So
+// an assignment that is found satisfies the first cube that can be satisfied.
 #ifndef CUBES_H
 #define CUBES_H
 
@@ -50,6 +52,7 @@ class Cubes {
     Cube literals;
     // the cube's number; a bit for each variable of cubes, set if it is frozen here
     uint64_t number = 0, kept = 0;
+    size_t next = 0;             // the index of the next cube in order
     std::vector<double> scores;  // by variable, from 1: how often and how recently it was learned
     double bump = 1;
 
@@ -58,6 +61,7 @@ class Cubes {
     void get_ready(const std::vector<unsigned char> &gone);
     void tell_usable();
     void take();
+    void take_next();
 };
 
 // The first process's part.
@@ -71,6 +75,7 @@ class Dealer {
 
     void open(const std::vector<Cube> &all);
     void deal(Shared &shared, const Options &options);
+    void count(const Shared &shared);  // refuted cubes, in order
 
   private:
     const std::vector<Cube> *cubes = nullptr;

@@ -195,6 +195,16 @@ std::string Display::progress() const {
 }
 
 // Cubes of the user's file.
+// In order, each cube that an engine has refuted, and the one that can be satisfied.
+void Display::tell_cubes(bool is_open) {
+    if (!inputs.options.in_order) return;
+    auto tell_next = [this](const char *what) {
+        tell(format("%.2f s: ", now() - started) + inputs.cube_names[cubes_told++] + what);
+    };
+    while (cubes_told < teams.dealer.refuted) tell_next(" refuted");
+    if (is_open && cubes_told < inputs.cubes.size()) tell_next(" satisfied");
+}
+
 std::string Display::cubes_refuted() const {
     return grouped(teams.dealer.refuted + teams.dealer.refuted_elsewhere) + " of " +
            counted(inputs.cubes.size(), "cube");

@@ -28,6 +28,7 @@ class Display {
     void tell(const std::string &line) const;       // a comment
     void tell_more(const std::string &line) const;  // with -v only
     void tell_details() const;
+    void tell_cubes(bool is_open);
     // whether a message says at once that an engine, or a proof, is lost: with -v, and in lrup-check,
     // where other proofs may take long; otherwise `tell_lost` does so at the end
     bool tells_at_once() const;
@@ -48,6 +49,7 @@ class Display {
     bool shows_progress = false;
     double started = now(), reported = started;
     uint64_t most_checked = 0;           // clauses, in a line of JSON
+    size_t cubes_told = 0;               // in order
     mutable double shown = 0, told = 0;  // when the last progress and comment were
 
     void show_progress(const std::string &line) const;

@@ -254,16 +254,25 @@ void Inputs::read_assumptions() {
 // Reads iCNF, and skips a header, comments and clauses. Cubes aren't trusted, so no spelling that
 // makes sense is refused.
 void Inputs::read_cubes() {
-    std::string name = title(options.cubes), line;
+    std::string name = title(options.cubes), line, before;
     check_plain(options.cubes, name);
     std::ifstream file(options.cubes);
     bool has_cube = false;
-    for (uint64_t number = 1; std::getline(file, line); number++)
+    for (uint64_t number = 1; std::getline(file, line); number++, before = line) {
         if (!read_cube(line, has_cube))
             refuse(name + ", line " + std::to_string(number) +
                    ": not a cube of the formula's literals, like 'a 1 -2 0'");
+        if (cube_names.size() < cubes.size()) name_cube(before);
+    }
     if (file.bad()) refuse("cannot read " + name + ": " + error_text());
     if (!has_cube) refuse(name + ": no cube: no line is like 'a 1 -2 0'");
+}
+
+// The last cube has the name in a comment on the line before it.
+void Inputs::name_cube(const std::string &before) {
+    bool has_name = before.size() > 2 && before.compare(0, 2, "c ") == 0;
+    cube_names.push_back(has_name ? before.substr(2)
+                                  : "cube " + std::to_string(cube_names.size() + 1));
 }
 
 // False if the line can't belong to an iCNF file.

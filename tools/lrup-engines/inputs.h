@@ -15,6 +15,7 @@ class Inputs {
     Formula first_formula = {};  // the formula of this run's first round
     std::vector<Literal> assumed;
     std::vector<Cube> cubes;                // without contradictory ones
+    std::vector<std::string> cube_names;    // for messages
     std::string formula_path, assume_path;  // to read them again
     double reading = 0;                     // seconds that reading the formula took
     std::string digests;                    // of both files, a line each, for the record
@@ -53,6 +54,7 @@ class Inputs {
     void read_assumptions();
     void read_cubes();
     bool read_cube(const std::string &line, bool &has_cube);
+    void name_cube(const std::string &before);
     std::string named(const std::string &cause) const;
 };
 

@@ -123,6 +123,7 @@ void read_values(Options &options) {
     options.proofs = given.proofs;
     options.assume = given.assume;
     options.cubes = given.cubes;
+    options.in_order = given.cubes_in_order;
     options.mpi = given.mpi;
     options.resumed = given.resume;
     options.core = given.core;
@@ -179,6 +180,9 @@ void check_engines(const Options &options) {
         refuse("--cubes without engines: -j sets their number");
     if (options.cubes && !options.share && options.engines != 1)
         refuse("--cubes and --no-share: refuted cubes are shared");
+    if (options.in_order && !options.cubes) refuse("--cubes-in-order without --cubes");
+    if (options.in_order && (!options.solvers.empty() || options.mpi))
+        refuse("--cubes-in-order takes only engines of this host");
     if (!options.solvers.empty() && options.mpi)
         refuse("--solver and --mpi: a solver shares nothing with engines elsewhere");
     if (!options.solvers.empty() && options.assume && !options.check)

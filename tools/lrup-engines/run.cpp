@@ -45,7 +45,8 @@ void Run::prepare() {
     rounds.begin();
     loop.begin();
     while (reap(children())) {}  // the probe may have ended before
-    for (size_t k = 0; k < inputs.cubes.size(); k++) teams.dealer.queue.push_back(k);
+    for (size_t k = 0; k < inputs.cubes.size() && !options.in_order; k++)
+        teams.dealer.queue.push_back(k);
     if (others) others->begin();
     teams.start(!others);
     if (inputs.options.resumed) display.tell(rounds.begin_message());
@@ -181,6 +182,7 @@ void Run::schedule_engines() {
     bool is_first = teams.dealer.dealt == 0;
     teams.schedule();
     if (is_first && teams.dealer.dealt > 0) display.tell_more("engines take cubes");
+    display.tell_cubes(false);
 }
 
 void Run::check_teams() {
@@ -506,6 +508,10 @@ void Run::send_answer() {
     std::string next = rounds.resume_message();
     if (answer == UNKNOWN_ANSWER && !next.empty()) display.tell(next);
     display.tell_record();
+    if (inputs.options.in_order) teams.dealer.count(*teams.shared);
+    if (inputs.options.in_order && answer == UNSATISFIABLE)
+        teams.dealer.refuted = inputs.cubes.size();
+    display.tell_cubes(answer == SATISFIABLE);
     display.tell_summary();
     bool is_refused = answer == UNKNOWN_ANSWER && (!unkept.empty() || !unstarted.empty());
     if (!is_refused) display.report_end(line_of_answer());

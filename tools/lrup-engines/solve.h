@@ -29,6 +29,7 @@ struct Options {
     int seed = 0;
     const char *proofs = nullptr, *assume = nullptr, *cubes = nullptr, *mpi = nullptr,
                *formula = nullptr;
+    bool in_order = false;                        // all engines take the same cube of the file
     bool names_formula = false;                   // false: it is standard input
     const char *record = nullptr;                 // the user's folder of --proofs
     const char *resumed = nullptr;                // the folder of --resume
