@@ -130,8 +130,10 @@ def main() -> int:
     words = sys.argv[1:]
     kind = STOBJ if words[:1] == ["--stobj"] else INCREMENTAL
     if len(words) != 2 + (kind == STOBJ):
-        print("usage: acl2.py [--stobj] FORMULA PROOF", file=sys.stderr)
-        return 2
+        is_asked = words == ["--help"]
+        print("usage: acl2.py [--stobj] FORMULA PROOF",
+              file=sys.stdout if is_asked else sys.stderr)
+        return 0 if is_asked else 2
     with tempfile.TemporaryDirectory() as work:
         try:
             files = converted(kind, words[-2], words[-1], work)

@@ -143,6 +143,8 @@ ON_NUMBERS: List[Tuple[str, Callable[[int, int], int]]] = [
     *CONNECTIVES, ("+", lambda x, y: x + y & ALL), ("-", lambda x, y: x - y & ALL)]
 COMPARED: List[Tuple[str, Callable[[int, int], int]]] = [
     ("==", lambda x, y: x == y), ("<", lambda x, y: x < y), ("<=", lambda x, y: x <= y)]
+MORE_COMPARED: List[Tuple[str, Callable[[int, int], int]]] = [
+    ("!=", lambda x, y: x != y), (">", lambda x, y: x > y), (">=", lambda x, y: x >= y)]
 CALLED: List[Tuple[str, Callable[[int, int], int]]] = [
     ("both", lambda x, y: x & y), ("when", lambda x, y: 1 - x | y)]
 
@@ -175,9 +177,9 @@ def statement(numbers: random.Random, depth: int) -> Valued:
         if numbers.random() < 0.2:
             text, value = statement(numbers, depth - 1)
             return f"~({text})", lambda names: 1 - value(names)
-        return joined(*numbers.choice([*CONNECTIVES, *CALLED, COMPARED[0]]),
+        return joined(*numbers.choice([*CONNECTIVES, *CALLED, COMPARED[0], MORE_COMPARED[0]]),
                       statement(numbers, depth - 1), statement(numbers, depth - 1))
-    return joined(*numbers.choice(COMPARED), number(numbers, depth - 1),
+    return joined(*numbers.choice([*COMPARED, *MORE_COMPARED]), number(numbers, depth - 1),
                   number(numbers, depth - 1))
 
 

@@ -140,7 +140,7 @@ USAGES: List[Tuple[str, str, List[List[str]]]] = [
      [[], ["formula.cnf"], ["formula.cnf", "answer", "more"]]),
     ("acl2.py", "acl2.py [--stobj] FORMULA PROOF",
      [[], ["--stobj", "f"], ["f"], ["f", "p", "x"]]),
-    ("miter/miter.sh", "miter.sh FILE.v FORMULA", [[], ["x.v"]]),
+    ("miter/miter.sh", "miter.sh FILE FORMULA", [[], ["x.v"]]),
     ("fifo/bmc.sh", "bmc.sh [--induction] FILE DEPTH FORMULA | bmc.sh --to DEPTH FILE FORMULA CUBES"
      ", with 2 or more steps for DEPTH",
      [[], ["x.v", "5"], ["x.v", "x", "f"], ["x.v", "", "f"], ["x.v", "0", "f"],
@@ -162,6 +162,14 @@ USAGES: List[Tuple[str, str, List[List[str]]]] = [
 def test_usage(script: str, usage: str, words: Sequence[str], tmp_path: Path) -> None:
     done = run([EXAMPLES / script, *words], b"", cwd=tmp_path)
     assert done == Ran("", f"usage: {usage}\n", 2)
+
+
+@pytest.mark.parametrize("script, usage", [
+    pytest.param(script, usage, id=script) for script, usage, _ in USAGES
+    if not script.endswith(".awk")])    # awk itself takes the option
+def test_help(script: str, usage: str, tmp_path: Path) -> None:
+    done = run([EXAMPLES / script, "--help"], b"", cwd=tmp_path)
+    assert done == Ran(f"usage: {usage}\n", "", 0)
 
 
 def want_refused(script: str, words: Sequence[object], said: str, folder: Path,
@@ -302,9 +310,9 @@ LEMMAS = [(text, f"a LEMMA can't have {refused}: the top of lemma.py says what i
               ('both(a < b, open("ran", "w"))', "open('ran', 'w')"),
               ("a.__class__ == b", "a.__class__"),
               ("(lambda: a < b)()", "(lambda: a < b)()"), ("[a < b][0]", "[a < b][0]"),
-              ("a <= e", "e"), ("a <= b <= c", "a <= b <= c"), ("a != b", "a != b"),
+              ("a <= e", "e"), ("a <= b <= c", "a <= b <= c"), ("a is b", "a is b"),
               ("a < b and b < c", "a < b and b < c"), ("not a < b", "not a < b"),
-              ("a * b == c", "a * b"), ("a > b", "a > b"), ("-a == b", "-a"), ("a == 1.0", "1.0"),
+              ("a * b == c", "a * b"), ("a in b", "a in b"), ("-a == b", "-a"), ("a == 1.0", "1.0"),
               ("a == True", "True"), ("when(a < b)", "when(a < b)"), ("both(*a)", "both(*a)"))]
 LEMMAS += [
     ("a == 256", "256 has more than 8 bits"),
@@ -350,9 +358,8 @@ def test_refused_circuits(script: str, words: Sequence[str], text: str, said: st
 
 
 @pytest.mark.parametrize("text, what", [
-    (b"(define (domain d) (:predicates (p ?x - t)))", "PDDL with types"),
-    (b"(define (domain d) (:requirements :strips :typing))", "PDDL with types"),
-    (b"(define (domain d) (:types t))", "PDDL with types"),
+    (b"(define (domain d) (:action a :parameters (?x - (either s t)) :effect (p ?x)))", "either"),
+    (b"(define (domain d) (:requirements :negative-preconditions))", "not in preconditions"),
     (b"(define (domain d) (:requirements :equality))", "equality"),
     (b"(define (domain d) (:action a :precondition (not (= ?x ?y))))", "equality"),
     (b"(define (domain d) (:action a :precondition (or (p) (q))))", "more than conjunctions"),
@@ -360,7 +367,34 @@ def test_refused_circuits(script: str, words: Sequence[str], text: str, said: st
     (b"(define (domain d) (:requirements :adl))", "more than conjunctions")])
 def test_plan_refuses_a_domain(text: bytes, what: str, tmp_path: Path) -> None:
     want_refused("planning/plan.py", ["/dev/stdin", PROBLEM, "3"],
-                 f"/dev/stdin: {what} isn't supported, only STRIPS", tmp_path, text)
+                 f"/dev/stdin: {what} isn't supported, only STRIPS and types", tmp_path, text)
+
+
+TYPED = """(define (domain d) (:types van lorry - vehicle vehicle - object place - place)
+  (:constants depot - place)
+  (:action drive :parameters (?v - vehicle ?from ?to - place)
+    :precondition (and (at ?v ?from)) :effect (and (at ?v ?to) (not (at ?v ?from))))
+  (:action load :parameters (?v - van ?any) :effect (full ?v ?any)))
+"""
+JOURNEY = """(define (problem p) (:domain d) (:objects v - van l - lorry town - place what)
+  (:init (at v depot)) (:goal (and (at v town) (full v what))))
+"""
+
+
+def test_plan_reads_types(tmp_path: Path) -> None:
+    """Parameters range over objects and constants of their types, of types below these, and without
+    a type over all."""
+    write_all({"domain": TYPED, "problem": JOURNEY}, tmp_path)
+    made = run([EXAMPLES / "planning" / "plan.py", "domain", "problem", "2"], cwd=tmp_path)
+    names = re.findall(r"^c (\S+)@1 ", output_of(made), re.M)
+    places = ["depot,depot", "depot,town", "town,depot", "town,town"]
+    assert sorted(names) == [*(f"drive({one},{two})" for one in "lv" for two in places),
+                             *(f"load(v,{one})" for one in ("depot", "l", "town", "v", "what"))]
+    needs("cadical")
+    for steps, status in ((1, 20), (2, 10)):
+        made = run([EXAMPLES / "planning" / "plan.py", "domain", "problem", steps], cwd=tmp_path)
+        formula = written(output_of(made), tmp_path)
+        assert run(["cadical", "-q", formula]).status == status
 
 
 @pytest.mark.parametrize("words, given, cause", [
@@ -369,6 +403,10 @@ def test_plan_refuses_a_domain(text: bytes, what: str, tmp_path: Path) -> None:
                  id="no file"),
     pytest.param([DOMAIN, "/dev/stdin"], b"(define (problem empty))",
                  "DOMAIN or PROBLEM can't be read: ':init'", id="no init"),
+    pytest.param([DOMAIN, "/dev/stdin"],
+                 b"(define (problem p) (:objects a) (:init (p a)) (:goal (not (room a))))",
+                 "not in preconditions and goals isn't supported, only STRIPS and types",
+                 id="a goal with not"),
     pytest.param([PROBLEM, DOMAIN], b"", f"{PROBLEM}: not a domain in PDDL", id="swapped"),
     pytest.param([DOMAIN, DOMAIN], b"", f"{DOMAIN}: not a problem in PDDL", id="two domains"),
     pytest.param([DOMAIN, "/dev/null"], b"", "/dev/null: not a problem in PDDL", id="nothing")])

@@ -73,8 +73,10 @@ def split(formula: Formula, count: int) -> List[List[int]]:
 
 def main(words: List[str]) -> int:
     if len(words) != 2 or not words[0].isdigit():
-        print("usage: split.py COUNT FORMULA", file=sys.stderr)
-        return 2
+        is_asked = words == ["--help"]
+        print("usage: split.py COUNT FORMULA",
+              file=sys.stdout if is_asked else sys.stderr)
+        return 0 if is_asked else 2
     for cube in split(Formula(read(words[1])), int(words[0])):
         print("a", *cube, 0)
     return 0

@@ -19,8 +19,10 @@ def progressions(length: int, last: int, sign: int) -> List[str]:
 
 def main(words: List[str]) -> int:
     if len(words) != 3 or not all(word.isdigit() for word in words) or min(map(int, words[:2])) < 2:
-        print("usage: waerden.py K L N, with 2 or more for K and L", file=sys.stderr)
-        return 2
+        is_asked = words == ["--help"]
+        print("usage: waerden.py K L N, with 2 or more for K and L",
+              file=sys.stdout if is_asked else sys.stderr)
+        return 0 if is_asked else 2
     first, second, last = map(int, words)
     clauses = progressions(first, last, -1) + progressions(second, last, 1)
     sys.stdout.write(f"p cnf {last} {len(clauses)}\n" + "".join(clauses))

@@ -12,8 +12,8 @@
 usage='usage: bmc.sh [--induction] FILE DEPTH FORMULA | bmc.sh --to DEPTH FILE FORMULA CUBES'
 usage="$usage, with 2 or more steps for DEPTH"
 first='reset=reset' begin='' cubes=''
+[ "$*" != --help ] || { echo "$usage"; exit; }
 case $1 in
-    --help) echo "$usage"; exit ;;
     --induction) first='induction=1' begin='setattr -unset init w:*;'; shift ;;
     --to) if [ $# -eq 5 ]; then cubes=$5; set -- "$3" "$2" "$4"; else set --; fi ;;
 esac

@@ -4,7 +4,7 @@
     lemma.py WIDTH LEMMA > lemma.cnf
 
 LEMMA is an expression over constants and the unsigned numbers a, b, c, d of WIDTH bits. Its
-operators are those of Python: + - & | ^ ~, << and >> by a constant, and == < <=. Sums and
+operators are those of Python: + - & | ^ ~, << and >> by a constant, and == != < <= > >=. Sums and
 differences wrap. `when(P, Q)` is 'if P then Q', `both(P, Q)` is 'P and Q'. The formula's comments
 `c NAME LITERAL` name the bits a[0], a[1] .. of the numbers, for show.awk."""
 import ast
@@ -50,6 +50,14 @@ def at_most(one, other):
     return [total(other, complement(one), TRUE)[1]]     # no borrow
 
 
+def below(one, other):
+    return complement(at_most(other, one))
+
+
+def equal(one, other):
+    return conjunction(at_most(one, other), at_most(other, one))
+
+
 conjunction = bit_by_bit(lambda x, y: x & y)
 NUMBERS, TRUTH_VALUES = "numbers", "truth values"
 EITHER = f"{NUMBERS} or two {TRUTH_VALUES}"
@@ -61,9 +69,11 @@ OPERATIONS = {
     ast.BitOr: (bit_by_bit(lambda x, y: x | y), EITHER, EITHER),
     ast.BitXor: (bit_by_bit(lambda x, y: x ^ y), EITHER, EITHER),
     ast.LtE: (at_most, NUMBERS, TRUTH_VALUES),
-    ast.Lt: (lambda one, other: complement(at_most(other, one)), NUMBERS, TRUTH_VALUES),
-    ast.Eq: (lambda one, other: conjunction(at_most(one, other), at_most(other, one)), EITHER,
-             TRUTH_VALUES),
+    ast.Lt: (below, NUMBERS, TRUTH_VALUES),
+    ast.GtE: (lambda one, other: at_most(other, one), NUMBERS, TRUTH_VALUES),
+    ast.Gt: (lambda one, other: below(other, one), NUMBERS, TRUTH_VALUES),
+    ast.Eq: (equal, EITHER, TRUTH_VALUES),
+    ast.NotEq: (lambda one, other: complement(equal(one, other)), EITHER, TRUTH_VALUES),
     "both": (conjunction, TRUTH_VALUES, TRUTH_VALUES),
     "when": (bit_by_bit(lambda x, y: (1 - x) | y), TRUTH_VALUES, TRUTH_VALUES)}
 
@@ -128,8 +138,9 @@ def main(width, lemma):
 
 
 if len(sys.argv) != 3 or not re.fullmatch("[1-9][0-9]*", sys.argv[1]):
-    print("usage: lemma.py WIDTH LEMMA", file=sys.stderr)
-    sys.exit(2)
+    is_asked = sys.argv[1:] == ["--help"]
+    print("usage: lemma.py WIDTH LEMMA", file=sys.stdout if is_asked else sys.stderr)
+    sys.exit(0 if is_asked else 2)
 try:
     main(int(sys.argv[1]), sys.argv[2])
 except SyntaxError as fault:

@@ -3,7 +3,7 @@
 most STEPS steps, one action each. Comments `c NAME LITERAL` name the actions of each step, such as
 move(kitchen,hall)@1, for show.awk.
 
-DOMAIN and PROBLEM are PDDL with only STRIPS: conjunctions, and `not` in effects; no types, no
+DOMAIN and PROBLEM are PDDL with only STRIPS and types: conjunctions, and `not` in effects; no
 equality."""
 import ast
 import itertools
@@ -12,8 +12,8 @@ import sys
 
 
 # What isn't STRIPS, and what it is called.
-UNSUPPORTED = [(r"\s-\s|\(\s*:types\b|:typing\b", "PDDL with types"),
-               (r"\(\s*=\s|:equality\b", "equality"),
+UNSUPPORTED = [(r"\(\s*=\s|:equality\b", "equality"), (r"\(\s*either\b", "either"),
+               (r":negative-preconditions\b", "not in preconditions"),
                (r"\(\s*(?:or|imply|forall|exists|when)\b|:(?:adl|conditional-effects"
                 r"|disjunctive-preconditions|quantified-preconditions"
                 r"|existential-preconditions|universal-preconditions)\b", "more than conjunctions")]
@@ -27,21 +27,50 @@ def read(path, kind):
         sys.exit(f"plan.py: {path}: not a {kind} in PDDL")
     for pattern, what in UNSUPPORTED:
         if re.search(pattern, text):
-            sys.exit(f"plan.py: {path}: {what} isn't supported, only STRIPS")
+            sys.exit(f"plan.py: {path}: {what} isn't supported, only STRIPS and types")
     lists = re.sub(r"[^\s()]+", lambda word: f"{word[0]!r},",
                    text).replace("(", "[").replace(")", "],")
     return ast.literal_eval(f"[{lists}]")[0]
 
 
 def parts(expression):
-    return expression[1:] if expression[:1] == ["and"] else [expression]
+    return expression[1:] if expression[:1] in ([], ["and"]) else [expression]
+
+
+def wanted(expression):
+    """The facts of a precondition or a goal."""
+    if any(fact[0] == "not" for fact in parts(expression)):
+        sys.exit("plan.py: not in preconditions and goals isn't supported, only STRIPS and types")
+    return parts(expression)
+
+
+def typed(words):
+    """The names of a list, each with its type."""
+    found, names, words = {}, [], iter(words)
+    for word in words:
+        if word == "-":
+            found.update(dict.fromkeys(names, next(words)))
+            names = []
+        else:
+            names.append(word)
+    return {**found, **dict.fromkeys(names, "object")}
+
+
+def is_a(kind, other, types):
+    known = set()
+    while kind != other and kind not in known:
+        known.add(kind)
+        kind = types.get(kind, "object")
+    return other in (kind, "object")
 
 
 def ground(domain, problem):
     """The initial facts, the goal's facts, and for each action its name, and the facts that it
     needs, adds and deletes. Facts that no action changes have to hold initially, and are
     dropped."""
-    sections = {entry[0]: entry[1:] for entry in problem[2:]}
+    sections = {entry[0]: entry[1:] for entry in [*domain[2:], *problem[2:]]}
+    types = typed(sections.get(":types", []))
+    objects = typed(sections.get(":constants", [])) | typed(sections.get(":objects", []))
     schemas = [dict(zip(entry[2::2], entry[3::2]), name=entry[1]) for entry in domain[2:]
                if entry[0] == ":action"]
     changing = {fact[1][0] if fact[0] == "not" else fact[0] for schema in schemas
@@ -49,18 +78,22 @@ def ground(domain, problem):
     facts = {tuple(fact) for fact in sections[":init"]}
     actions = []
     for schema in schemas:
-        for values in itertools.product(sections[":objects"], repeat=len(schema[":parameters"])):
-            bound = dict(zip(schema[":parameters"], values))
-            effect = parts(schema[":effect"])
-            found = (parts(schema[":precondition"]), [fact for fact in effect if fact[0] != "not"],
-                     [fact[1] for fact in effect if fact[0] == "not"])
+        parameters = typed(schema.get(":parameters", []))
+        effect = parts(schema[":effect"])
+        found = (wanted(schema.get(":precondition", [])),
+                 [fact for fact in effect if fact[0] != "not"],
+                 [fact[1] for fact in effect if fact[0] == "not"])
+        fitting = ([name for name, kind in objects.items() if is_a(kind, other, types)]
+                   for other in parameters.values())
+        for values in itertools.product(*fitting):
+            bound = dict(zip(parameters, values))
             wants, adds, deletes = ([tuple(bound.get(word, word) for word in fact)
                                      for fact in facts_of] for facts_of in found)
             if all(fact in facts for fact in wants if fact[0] not in changing):
                 wants = [fact for fact in wants if fact[0] in changing]
                 actions.append((f"{schema['name']}({','.join(values)})", wants, adds,
                                 [fact for fact in deletes if fact not in adds]))
-    return facts, {tuple(fact) for fact in parts(sections[":goal"][0])}, actions
+    return facts, {tuple(fact) for fact in wanted(sections[":goal"][0])}, actions
 
 
 def main(domain, problem, steps):
@@ -90,8 +123,9 @@ def main(domain, problem, steps):
 
 
 if len(sys.argv) != 4 or not re.fullmatch("[0-9]+", sys.argv[3]):
-    print("usage: plan.py DOMAIN PROBLEM STEPS", file=sys.stderr)
-    sys.exit(2)
+    is_asked = sys.argv[1:] == ["--help"]
+    print("usage: plan.py DOMAIN PROBLEM STEPS", file=sys.stdout if is_asked else sys.stderr)
+    sys.exit(0 if is_asked else 2)
 try:
     main(sys.argv[1], sys.argv[2], int(sys.argv[3]))
 except Exception as fault:

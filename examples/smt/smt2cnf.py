@@ -127,9 +127,11 @@ def formula(text):
 
 
 def main(words):
-    if len(words) != 1:
-        print("usage: smt2cnf.py PROBLEM.smt2 > FORMULA.cnf", file=sys.stderr)
-        return 2
+    if len(words) != 1 or words == ["--help"]:
+        is_asked = words == ["--help"]
+        print("usage: smt2cnf.py PROBLEM.smt2 > FORMULA.cnf",
+              file=sys.stdout if is_asked else sys.stderr)
+        return 0 if is_asked else 2
     try:
         with open(words[0], encoding="utf-8") as file:
             text = file.read()

@@ -219,7 +219,8 @@ def test_a_record_with_copies_of_its_inputs(assumed: bool, is_checked: bool, kep
     text = example("assumed.cnf").read_text() if assumed else FOUR
     formula, cube = written(text, tmp_path), written("-2 0\n", tmp_path, "cube")
     proof = example("assumed.lrup" if assumed else "four-clause.lrup")
-    program = [SOLVE.with_name("lrup-check")] if is_checked else [SOLVE, "-j", "1"]
+    program: List[object] = ([SOLVE.with_name("lrup-check")] if is_checked
+                             else [SOLVE, "-j", "1"])
     words = [*program, "-q", "--with-formula", "--proofs", kept, *["--assume", cube] * assumed,
              formula, *[proof] * is_checked]
     checks = 8 if assumed else 0
