@@ -297,7 +297,9 @@ def test_smt2cnf_without_a_file(tmp_path: Path) -> None:
 @pytest.mark.parametrize("text, lines", [
     (f"{WORD}(assert (= (bvadd x #x01) x))", ["p cnf 1 2", "1 0", "-1 0"]),
     (f"{TRUTH}(assert false)", ["p cnf 1 2", "1 0", "-1 0"]),
-    (f"{TRUTH}(assert (not p))", ["p cnf 1 1", "c p 1", "-1 0"])])
+    (f"{TRUTH}(assert (not p))", ["p cnf 1 1", "c p 1", "-1 0"]),
+    ("(declare-fun p () Bool)(assert (not p))(check-sat)(get-model)(exit)",
+     ["p cnf 1 1", "c p 1", "-1 0"])])
 def test_smt2cnf_writes_a_formula(text: str, lines: Sequence[str], tmp_path: Path) -> None:
     made = run([EXAMPLES / "smt" / "smt2cnf.py", written(text, tmp_path)])
     assert output_of(made).splitlines() == lines

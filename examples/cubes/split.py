@@ -4,8 +4,9 @@
     split.py COUNT FORMULA > CUBES
 
 There are at least COUNT cubes, unless the formula has too few variables. Cubes that unit
-propagation refutes are left out, since any solver refutes them, too. Look-ahead splitters such as
-march_cu make better cubes, in the same form."""
+propagation refutes are left out, since any solver refutes them, too; if none is left, the empty one
+stands for the whole formula. Look-ahead splitters such as march_cu make better cubes, in the same
+form."""
 import sys
 from collections import Counter
 from typing import Dict, List, Optional, Set
@@ -77,7 +78,7 @@ def main(words: List[str]) -> int:
         print("usage: split.py COUNT FORMULA",
               file=sys.stdout if is_asked else sys.stderr)
         return 0 if is_asked else 2
-    for cube in split(Formula(read(words[1])), int(words[0])):
+    for cube in split(Formula(read(words[1])), int(words[0])) or [[]]:
         print("a", *cube, 0)
     return 0
 

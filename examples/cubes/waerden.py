@@ -4,8 +4,9 @@ the first, or L of the second?
 
     waerden.py K L N
 
-Variable k is true if the number k has the first colour. W(4, 6) is 73: `waerden.py 4 6 73` writes
-an unsatisfiable formula; with 72 it is satisfiable."""
+Variable k is true if the number k has the first colour; a comment `c first(k) k` names it for
+show.awk. W(4, 6) is 73: `waerden.py 4 6 73` writes an unsatisfiable formula; with 72 it is
+satisfiable."""
 import sys
 from typing import List
 
@@ -25,7 +26,8 @@ def main(words: List[str]) -> int:
         return 0 if is_asked else 2
     first, second, last = map(int, words)
     clauses = progressions(first, last, -1) + progressions(second, last, 1)
-    sys.stdout.write(f"p cnf {last} {len(clauses)}\n" + "".join(clauses))
+    names = [f"c first({number}) {number}\n" for number in range(1, last + 1)]
+    sys.stdout.write(f"p cnf {last} {len(clauses)}\n" + "".join(names + clauses))
     return 0
 
 

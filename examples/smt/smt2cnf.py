@@ -31,7 +31,7 @@ def commands(text):
     for token in re.findall(r';.*|"[^"]*"|\|[^|]*\||[()]|[^\s()";|]+', text):
         if not token.startswith(";"):
             depth += {"(": 1, ")": -1}.get(token, 0)
-            if depth == 1 and last == "(":
+            if depth == 1 and last == "(" and token != ")":     # not the end of an empty list
                 yield token
             last = token
 
