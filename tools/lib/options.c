@@ -87,7 +87,7 @@ const Texts *arguments_read(const char *program, const char *help, const Option 
             fputs(help, stdout);
         else
             printf("%s " VERSION "\n", program);
-        exit(fflush(stdout) == 0 ? 0 : 1);
+        exit(fflush(stdout) == 0 && !ferror(stdout) ? 0 : 1);
     }
     for (size_t k = 0; k < files.length; k++)
         if (strcmp(files.items[k], "-") == 0) refuse("no such option:", "-");

@@ -216,7 +216,8 @@ static void show(void) {
         printf("%s", is_check ? HELP_OF_CHECK : HELP);
     else
         puts(is_check ? "lrup-check " VERSION : "lrup-solve " VERSION WITH_CADICAL);
-    if (fflush(stdout) != 0) err(1, "cannot write to standard output");
+    // a help that is longer than the buffer fails before its end is flushed
+    if (fflush(stdout) != 0 || ferror(stdout)) err(1, "cannot write to standard output");
     exit(is_check ? 2 : 0);  // for lrup-check 0 would be a proof
 }
 
