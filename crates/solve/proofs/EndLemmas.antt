@@ -1,8 +1,7 @@
 -- Lemmas about the answers, and about the end of a run.
-use Rattle.std.proofs.Common.{◌++◌, ◌<◌, ◌≡◌, ◌⊎◌, Bool, List, [], Option, ap, arith, false, inl, inr, refl, subst, sym, true, ℕ}
-use Rattle.std.specs.Io.KnownBytes.{Appends}
+use Rattle.std.proofs.Common.{◌++◌, ◌<◌, ◌≡◌, ◌⊎◌, Bool, List, [], Option, arith, false, inl, inr, refl, subst, sym, true, ℕ}
 use Rattle.lrup_model.specs.Cube.{CubeValue, IsUnsatisfiableUnder, MakesAllTrue}
-use Rattle.lrup_model.specs.Entailment.{Assignment, IsUnsatisfiable}
+use Rattle.lrup_model.specs.Entailment.{IsUnsatisfiable}
 use Rattle.lrup_model.specs.Formula.{Cnf}
 use Rattle.lrup_text.specs.declared.device.Sink as Sink
 use Rattle.run_outcome.specs.declared.outcome.Verdict.{Verdict}

@@ -1,5 +1,5 @@
 -- What the answers of a run of `lrup-solve` mean, and how they are printed (this project's own).
-use Rattle.std.specs.Prelude.{◌++◌, ◌≡◌, Bool, List, Option, codes, false, true, ℕ, ℤ}
+use Rattle.std.specs.Prelude.{◌++◌, ◌≡◌, Bool, List, codes, false, true, ℕ, ℤ}
 use Rattle.std.specs.Io.KnownBytes.{Appends}
 use Rattle.lrup_model.specs.Cube.{CubeValue, IsUnsatisfiableUnder}
 use Rattle.lrup_model.specs.Entailment.{IsUnsatisfiable}
