@@ -106,7 +106,12 @@ impl Ran {
 fn is_over(formula: &Formula, cube: &Cube) -> bool
     ensures { IsTrue result → IsCubeOver formula.now.vars cube.now }
 {
-    cube.vars() <= formula.vars()
+    let over = cube.vars();
+    let most = formula.vars();
+    if over > most {
+        return false;
+    }
+    true
 }
 
 /// Runs with this setup; `diary` takes what the helper is told.
