@@ -8,7 +8,7 @@ const LONGEST: usize = 4_096;
 /// What the helper says.
 pub trait HelperOutput {
     /// Puts bytes of it into the front of the buffer, and returns how many; 0 if no more will come.
-    /// A number above the buffer's length means that, too.
+    /// A number above the buffer's length means its length, and that no more will come.
     fn read(&mut self, buffer: &mut [u8]) -> usize;
 }
 
