@@ -5,7 +5,7 @@ A command comes after '$ ' in a block that is indented by four spaces or more. I
 a backslash, a bar or '&&', it continues on the next one. The text below it is the expected output,
 including standard error: a line '..' stands for any lines, and in a line that begins with
 lrup-solve's time, each number stands for any other. If there is no text, any output is fine. Some
-commands aren't run, since they would prove the program: see NOT_RUN."""
+commands aren't run, since they would prove the program, or fetch packages: see NOT_RUN."""
 import os
 import re
 import shutil
@@ -20,7 +20,8 @@ from harness import (EXAMPLES, EXPLAIN, FILTER, LRUP_RECHECK, ROOT, TRIM, Ran, g
 from solving import SOLVE
 
 LIMIT = 120  # seconds for a page
-NOT_RUN = ["make try", "make test", "make install PREFIX=$HOME/.local"]
+NOT_RUN = ["make try", "make test", "make install PREFIX=$HOME/.local",
+           "sh gate/cadicals.sh cadicals sid", "make install CADICAL=cadicals/sid"]
 # Each page, with the files in its folder besides the examples, which are copies and generated
 # formulas; and with the packages that its commands need.
 PAGES: List[Tuple[str, List[str], List[str]]] = [
