@@ -1,4 +1,7 @@
 //! Worked formulas, assumptions and models: the answer, or why a file is refused.
+ghost use Rattle.std.specs.Prelude.{IsTrue};
+ghost use Rattle.lrup_model.specs.Cube.{IsCubeOver};
+
 use lrup_model::{Cube, Formula, Lit};
 use model_check::{Answer, CheckFault, check_model, evaluate};
 use std::alloc::{AllocError, Global};
@@ -228,6 +231,18 @@ fn memory_text(rt: HostRuntime) -> Result<(), Fail> {
     Ok(())
 }
 
+/// Whether the assumed literals are over the formula's variables.
+fn is_over(formula: &Formula, cube: &Cube) -> bool
+    ensures { IsTrue result → IsCubeOver formula.now.vars cube.now }
+{
+    let over = cube.vars();
+    let most = formula.vars();
+    if over > most {
+        return false;
+    }
+    true
+}
+
 /// The answer for one literal of the formula with the clause `1`, under a cube over its variable.
 fn of_one(
     rt: &(impl Abort + AllocGlobal),
@@ -241,7 +256,7 @@ fn of_one(
     };
     let mut formula = Formula::new(alloc, 1);
     formula.push(&[one])?;
-    if l.var() > formula.vars() || cube.vars() > formula.vars() {
+    if l.var() > formula.vars() || !is_over(&formula, cube) {
         return Ok(());
     }
     let answer = evaluate(alloc, &formula, cube, &[l])?;
