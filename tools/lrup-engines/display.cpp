@@ -194,7 +194,6 @@ std::string Display::progress() const {
            kept;
 }
 
-// Cubes of the user's file.
 // In order, each cube that an engine has refuted, and the one that can be satisfied.
 void Display::tell_cubes(bool is_open) {
     if (!inputs.options.in_order) return;
@@ -205,6 +204,7 @@ void Display::tell_cubes(bool is_open) {
     if (is_open && cubes_told < inputs.cubes.size()) tell_next(" satisfied");
 }
 
+// Cubes of the user's file.
 std::string Display::cubes_refuted() const {
     return grouped(teams.dealer.refuted + teams.dealer.refuted_elsewhere) + " of " +
            counted(inputs.cubes.size(), "cube");
